@@ -1,0 +1,77 @@
+-- What content constraints break of 34 and 17, found in one pass over them: an equal account of those tests of Judge that read the rights.
+use Prim.Native.Nat.{ℕ}
+use mathlib.Core.Bool.{Bool, true, false, not, _&&_, _||_}
+use mathlib.Core.List.{List, [], _∷_, map}
+use lib.ListN.{length}
+use lib.Dec.{ltb, eqb}
+use Rattle.octets.specs.Limits.{maxEntries, maxAttributes, maxValues, maxValueOctets}
+use Rattle.octets.specs.Lists.{anyOf}
+use Rattle.octets.specs.Octets.{same, distinct}
+use Rattle.der.specs.declared.Element.{Element}
+use Rattle.der.specs.Element.{whole, contents, field}
+use Rattle.rights.specs.Rights.{Key, Entry, Rights, anyContentType}
+use Rattle.anchor.specs.declared.Faults.{Faults}
+use Rattle.anchor.specs.declared.Compared.{Compared}
+use Rattle.anchor.specs.declared.Compared.the-variants.{Types, Octets}
+use Rattle.anchor.specs.Judge.{typesIn}
+
+-- what members of a run are compared by: their type (an OID's contents), or all their octets
+unfoldable pub keyOf : Compared → List ℕ → Element → List ℕ
+keyOf Types s e = contents s (field 0x06 s e)
+keyOf Octets s e = whole s e
+
+-- where a run goes on behind e: nothing is read behind a header that breaks a rule
+unfoldable pub nextAt : Element → ℕ → ℕ
+nextAt e stop = elim (e .good) [ true ↦ e .stop | false ↦ stop ]
+
+abbrev pub noFaults : Faults
+noFaults = record { repeated = false; unlike = false; entries = false; attributes = false; values = false; octets = false }
+
+-- the faults of two parts together
+unfoldable pub together : Faults → Faults → Faults
+together a b =
+    record
+    { repeated = a .repeated || b .repeated
+    ; unlike = a .unlike || b .unlike
+    ; entries = a .entries || b .entries
+    ; attributes = a .attributes || b .attributes
+    ; values = a .values || b .values
+    ; octets = a .octets || b .octets }
+
+module _ {A : Type 0} where
+  unfoldable pub faultsIn : (A → Faults) → List A → Faults
+  faultsIn f [] = noFaults
+  faultsIn f (x ∷ l) = together (f x) (faultsIn f l)
+
+unfoldable pub attributeFaults : Key × List Key → Faults
+attributeFaults a =
+    record
+    { repeated = not (distinct (a .1))
+    ; unlike = false
+    ; entries = false
+    ; attributes = false
+    ; values = ltb maxValues (length (a .1))
+    ; octets = anyOf (λ v. ltb maxValueOctets (length v)) (a .1) }
+
+-- 34, "an anyContentType entry unlike Rights"
+unfoldable pub isUnlike : Key × Entry → Bool
+isUnlike e = same (e .0) anyContentType && not (e .1 .canSource && eqb (length (e .1 .constraints)) 0)
+
+unfoldable pub entryFaults : Key × Entry → Faults
+entryFaults e =
+    together
+    (record
+    { repeated = not (distinct (typesIn (e .1 .constraints)))
+    ; unlike = isUnlike e
+    ; entries = false
+    ; attributes = ltb maxAttributes (length (e .1 .constraints))
+    ; values = false
+    ; octets = false })
+    (faultsIn attributeFaults (e .1 .constraints))
+
+unfoldable pub rightsFaults : Rights → Faults
+rightsFaults r =
+    together
+    (record
+    { repeated = not (distinct (typesIn r)); unlike = false; entries = ltb maxEntries (length r); attributes = false; values = false; octets = false })
+    (faultsIn entryFaults r)

@@ -1,0 +1,110 @@
+-- 01, After acceptance, add: the checks up to status 17 for size, in order; and The store image: a stored TrustAnchorInfo.
+use Prim.Native.Nat.{ℕ}
+use mathlib.Core.Bool.{Bool, true, false, not, _&&_, _||_}
+use mathlib.Core.List.{List, [], _∷_, map}
+use lib.ListN.{length}
+use lib.Dec.{leb, ltb, eqb}
+use Rattle.octets.specs.declared.Status.{Status}
+use Rattle.octets.specs.Status.{success, insufficientMemory, unsupportedTrustAnchorFormat}
+use Rattle.octets.specs.Limits.{maxAnchorOctets, maxKeyIdentifier, maxDepth, maxEntries, maxAttributes, maxValues, maxValueOctets}
+use Rattle.octets.specs.First.{givenIf}
+use Rattle.octets.specs.Lists.{allOf, anyOf}
+use Rattle.octets.specs.Octets.{same, distinct}
+use Rattle.der.specs.Fit.{andThen, kept}
+use Rattle.der.specs.declared.Fit.{Fit}
+use Rattle.der.specs.Check.{spans}
+use Rattle.syntax.specs.Grammar.{Syntax, fit}
+use Rattle.syntax.specs.Asn.{StoredTrustAnchorInfo, CMSContentConstraints}
+use Rattle.rights.specs.Rights.{Key, Entry, Rights, anyContentType}
+use Rattle.anchor.specs.declared.Judged.{Judged}
+use Rattle.anchor.specs.declared.Judged.the-variants as judged
+use Rattle.anchor.specs.Info.{version, keyIdentifier, certPath, extensions, extnID, critical, isConstraints, hasConstraints, constraintsValue, rightsOf}
+
+-- 01's numbers
+unfoldable pub statusOf : Judged → Status
+statusOf judged.Passes = success
+statusOf judged.CertificateForm = unsupportedTrustAnchorFormat
+statusOf judged.OtherVersion = unsupportedTrustAnchorFormat
+statusOf judged.CertPath = unsupportedTrustAnchorFormat
+statusOf judged.RepeatedExtension = unsupportedTrustAnchorFormat
+statusOf judged.CriticalExtension = unsupportedTrustAnchorFormat
+statusOf judged.ConstraintsSyntax = unsupportedTrustAnchorFormat
+statusOf judged.RepeatedConstraint = unsupportedTrustAnchorFormat
+statusOf judged.AnyContentTypeEntry = unsupportedTrustAnchorFormat
+statusOf judged.AnchorOctets = insufficientMemory
+statusOf judged.KeyIdentifierOctets = insufficientMemory
+statusOf judged.EntryCount = insufficientMemory
+statusOf judged.AttributeCount = insufficientMemory
+statusOf judged.ValueCount = insufficientMemory
+statusOf judged.ValueOctets = insufficientMemory
+
+abbrev pub passes : Judged → Bool
+passes j = eqb (statusOf j .number) (success .number)
+
+-- octets by themselves: DER, depth counted from their element, and of a syntax
+unfoldable pub conforms : Syntax → List ℕ → Bool
+conforms g t = kept (andThen (spans maxDepth t 0 (length t) 0) (fit g t 0 (length t) 0))
+
+-- 34, "a repeated extension"
+unfoldable pub repeatedExtension : List ℕ → Bool
+repeatedExtension t = not (distinct (map (extnID t) (extensions t)))
+
+-- 34, "a critical one but content constraints"
+unfoldable pub criticalExtension : List ℕ → Bool
+criticalExtension t = anyOf (λ e. critical t e && not (isConstraints t e)) (extensions t)
+
+-- 34, "bad constraints syntax": DER and syntax of the value, depth counted afresh
+unfoldable pub badConstraints : List ℕ → Bool
+badConstraints t = hasConstraints t && not (conforms CMSContentConstraints (constraintsValue t))
+
+abbrev pub typesIn : {A : Type 0} → List (Key × A) → List Key
+typesIn l = map (λ e. e .0) l
+
+-- 34, "a repeated type or value in it": a content type, an attribute type in one entry, a value in one attribute constraint
+unfoldable pub repeatedConstraint : Rights → Bool
+repeatedConstraint r =
+    not
+    (distinct (typesIn r)
+    && allOf (λ e. distinct (typesIn (e .1 .constraints)) && allOf (λ a. distinct (a .1)) (e .1 .constraints)) r)
+
+-- 34, "an anyContentType entry unlike Rights": it has canSource and no constraints
+unfoldable pub anyContentTypeUnlike : Rights → Bool
+anyContentTypeUnlike r = anyOf (λ e. same (e .0) anyContentType && not (e .1 .canSource && eqb (length (e .1 .constraints)) 0)) r
+
+-- 17, "over 1,024 octets, identifier outside 1 to 32, a count or value over the limits of Rights"
+unfoldable pub identifierOutside : List ℕ → Bool
+identifierOutside t = not (leb 1 (length (keyIdentifier t)) && leb (length (keyIdentifier t)) maxKeyIdentifier)
+
+unfoldable pub overEntries : Rights → Bool
+overEntries r = ltb maxEntries (length r)
+
+unfoldable pub overAttributes : Rights → Bool
+overAttributes r = anyOf (λ e. ltb maxAttributes (length (e .1 .constraints))) r
+
+unfoldable pub overValues : Rights → Bool
+overValues r = anyOf (λ e. anyOf (λ a. ltb maxValues (length (a .1))) (e .1 .constraints)) r
+
+unfoldable pub overValueOctets : Rights → Bool
+overValueOctets r = anyOf (λ e. anyOf (λ a. anyOf (λ v. ltb maxValueOctets (length v)) (a .1)) (e .1 .constraints)) r
+
+-- The checks of a TrustAnchorInfo, in the order of 01. (The certificate forms are told by the TrustAnchorChoice around it.)
+unfoldable pub judge : List ℕ → Judged
+judge t =
+    let r = rightsOf t in
+    givenIf (version t .good) judged.OtherVersion
+    (givenIf (certPath t .good) judged.CertPath
+    (givenIf (repeatedExtension t) judged.RepeatedExtension
+    (givenIf (criticalExtension t) judged.CriticalExtension
+    (givenIf (badConstraints t) judged.ConstraintsSyntax
+    (givenIf (repeatedConstraint r) judged.RepeatedConstraint
+    (givenIf (anyContentTypeUnlike r) judged.AnyContentTypeEntry
+    (givenIf (ltb maxAnchorOctets (length t)) judged.AnchorOctets
+    (givenIf (identifierOutside t) judged.KeyIdentifierOctets
+    (givenIf (overEntries r) judged.EntryCount
+    (givenIf (overAttributes r) judged.AttributeCount
+    (givenIf (overValues r) judged.ValueCount
+    (givenIf (overValueOctets r) judged.ValueOctets judged.Passes))))))))))))
+
+-- 01, The store image: "A stored TrustAnchorInfo is DER of RFC 5914's syntax, depth counted from itself, and passes every check of an add up to status 17 for size."
+unfoldable pub storable : List ℕ → Bool
+storable t = conforms StoredTrustAnchorInfo t && passes (judge t)

@@ -1,0 +1,3 @@
+pub mod Info
+pub mod Judge
+pub mod Faults

@@ -1,0 +1,357 @@
+-- `der::check_element` and `der::check_run` meet their contracts: a cycle of calls. The depth falls from an element to the run inside it;
+-- the octets that are left fall in the loop of a run, whose invariant is that the judge finds in what is left what it finds in the whole. Assumes nothing.
+use Prim.Native.Nat.{ℕ, _+_, _*_, _-_, _<_}
+use native.Mathlib.Omega.{arith}
+use borrow.Author.Needs.{needs}
+use mathlib.Core.Path.{_≡_, sym, _∙_}
+use borrow.Author.Tests.{not-true, not-false}
+use Rattle.der.specs.Element.{elementAt, elements, inside}
+use Rattle.der.specs.Fit.{eachFrom, each}
+use Rattle.der.proofs.Elements.{good-within}
+use Rattle.der.proofs.Fits.{then-fits, then-breaks, held-fits, held-breaks, each-start, each-end, each-broken, each-breaks, each-turn}
+use Rattle.der.proofs.Checks.{memberFit, der-deep, der-bad, der-run, der-leaf}
+use Prim.Native.Nat.{ℕ, _<_}
+use borrow.Fn.Kinds.{In}
+use borrow.Fn.PlainCycle.{Measures, is, falls, and}
+use Rattle.der.proofs.check_element.Reads as check-element
+use Rattle.der.proofs.check_element.Kinds as check-element-kinds
+use Rattle.der.proofs.+check_element+check_run.Lts-check_element as check-element-lts
+use Rattle.der.proofs.check_run.Reads as check-run
+use Rattle.der.proofs.check_run.Kinds as check-run-kinds
+use Rattle.der.proofs.+check_element+check_run.Lts-check_run as check-run-lts
+use Rattle.der.proofs.check_contents.Reads as check-contents-reads
+use Rattle.der.proofs.element_at.Reads as element-at-reads
+use Rattle.der.proofs.is_constructed.Reads as is-constructed-reads
+use Rattle.der.proofs.is_sorted.Reads as is-sorted-reads
+use Rattle.der.proofs.+check_element+check_run.{statement}
+use Rattle.der.proofs.+check_element+check_run.Tie.{close}
+
+abbrev μ-check-element : Measures 1 check-element-kinds.ps ℕ
+μ-check-element κs a = 2 * a .1 .1 .0
+
+abbrev μ-check-run : Measures 1 check-run-kinds.ps ℕ
+μ-check-run κs a = 2 * a .1 .1 .0 + 1
+
+abbrev check-element-at : ℕ → In 1 check-element-kinds.ps
+check-element-at t =
+    and 1 check-element-kinds.ps (is 1 check-element-kinds.ps μ-check-element t) check-element.Pre
+
+abbrev check-element-below : ℕ → In 1 check-element-kinds.ps
+check-element-below t =
+    and
+    1
+    check-element-kinds.ps
+    (falls 1 check-element-kinds.ps _<_ μ-check-element t)
+    check-element.Pre
+
+abbrev check-run-at : ℕ → In 1 check-run-kinds.ps
+check-run-at t = and 1 check-run-kinds.ps (is 1 check-run-kinds.ps μ-check-run t) check-run.Pre
+
+abbrev check-run-below : ℕ → In 1 check-run-kinds.ps
+check-run-below t =
+    and 1 check-run-kinds.ps (falls 1 check-run-kinds.ps _<_ μ-check-run t) check-run.Pre
+
+check-element-returns : (t : ℕ) → check-element-lts.Need-returns (
+  is-constructed-reads.Asked,
+  is-constructed-reads.Learnt,
+  check-run-below t,
+  check-run.Post,
+  check-contents-reads.Asked,
+  check-contents-reads.Learnt,
+) (check-element-at t) check-element.Post
+check-element-returns t c = sym (der-deep _ _ _ (c .if1 .taken))
+
+check-element-returns-2 : (t : ℕ) → check-element-lts.Need-returns-2 (
+  is-constructed-reads.Asked,
+  is-constructed-reads.Learnt,
+  check-run-below t,
+  check-run.Post,
+  check-contents-reads.Asked,
+  check-contents-reads.Learnt,
+) (check-element-at t) check-element.Post
+check-element-returns-2 t c = sym (der-bad _ _ _ (not-true _ (c .if2 .taken)))
+
+check-element-is-constructed-requires : (t : ℕ) → check-element-lts.Need-is-constructed-requires (
+  is-constructed-reads.Asked,
+  is-constructed-reads.Learnt,
+  check-run-below t,
+  check-run.Post,
+  check-contents-reads.Asked,
+  check-contents-reads.Learnt,
+) (check-element-at t) check-element.Post
+check-element-is-constructed-requires t c κs = search needs
+
+check-element-sub-check-run : (t : ℕ) → check-element-lts.Need-sub-check-run (
+  is-constructed-reads.Asked,
+  is-constructed-reads.Learnt,
+  check-run-below t,
+  check-run.Post,
+  check-contents-reads.Asked,
+  check-contents-reads.Learnt,
+) (check-element-at t) check-element.Post
+check-element-sub-check-run t c = omega arith
+
+check-element-check-run-requires : (t : ℕ) → check-element-lts.Need-check-run-requires (
+  is-constructed-reads.Asked,
+  is-constructed-reads.Learnt,
+  check-run-below t,
+  check-run.Post,
+  check-contents-reads.Asked,
+  check-contents-reads.Learnt,
+) (check-element-at t) check-element.Post
+check-element-check-run-requires t c κs = omega arith
+
+check-element-returns-3 : (t : ℕ) → check-element-lts.Need-returns-3 (
+  is-constructed-reads.Asked,
+  is-constructed-reads.Learnt,
+  check-run-below t,
+  check-run.Post,
+  check-contents-reads.Asked,
+  check-contents-reads.Learnt,
+) (check-element-at t) check-element.Post
+check-element-returns-3 t c =
+    let k = sym (c .before .before .is-constructed .ensures) ∙ c .before .if3 .taken in
+    c .check-run .ensures ∙ sym (der-run _ _ _ (c .before .before .before .before .before .if1 .left) (not-false _ (c .before .before .before .if2 .left)) k)
+
+check-element-check-contents-requires : (t : ℕ) → check-element-lts.Need-check-contents-requires (
+  is-constructed-reads.Asked,
+  is-constructed-reads.Learnt,
+  check-run-below t,
+  check-run.Post,
+  check-contents-reads.Asked,
+  check-contents-reads.Learnt,
+) (check-element-at t) check-element.Post
+check-element-check-contents-requires t c κs = search needs
+
+check-element-returns-4 : (t : ℕ) → check-element-lts.Need-returns-4 (
+  is-constructed-reads.Asked,
+  is-constructed-reads.Learnt,
+  check-run-below t,
+  check-run.Post,
+  check-contents-reads.Asked,
+  check-contents-reads.Learnt,
+) (check-element-at t) check-element.Post
+check-element-returns-4 t c =
+    let k = sym (c .before .before .is-constructed .ensures) ∙ c .before .if3 .left in
+    c .check-contents .ensures ∙ sym (der-leaf _ _ _ (c .before .before .before .before .before .if1 .left) (not-false _ (c .before .before .before .if2 .left)) k)
+
+abbrev check-run-Inv-loop : check-run-lts.InvT-loop
+check-run-Inv-loop s outer depth stop at₀ e₀ former₀ at e former =
+    (e ≡ elementAt s at (outer .stop))
+    × (eachFrom (memberFit depth s outer) former (elements s at (outer .stop)) ≡ each (memberFit depth s outer) (inside s outer))
+
+abbrev check-run-μ-loop : check-run-lts.MeasureT-loop
+check-run-μ-loop s outer depth stop at₀ e₀ former₀ at e former = outer .stop - at
+
+check-run-element-at-requires : (t : ℕ) → check-run-lts.Need-element-at-requires (
+  element-at-reads.Asked,
+  element-at-reads.Learnt,
+  check-element-below t,
+  check-element.Post,
+  is-sorted-reads.Asked,
+  is-sorted-reads.Learnt,
+) (check-run-at t) check-run.Post check-run-Inv-loop check-run-μ-loop
+check-run-element-at-requires t c κs = search needs
+
+check-run-loop-holds : (t : ℕ) → check-run-lts.Need-loop-holds (
+  element-at-reads.Asked,
+  element-at-reads.Learnt,
+  check-element-below t,
+  check-element.Post,
+  is-sorted-reads.Asked,
+  is-sorted-reads.Learnt,
+) (check-run-at t) check-run.Post check-run-Inv-loop check-run-μ-loop
+check-run-loop-holds t c =
+    let a = c .before .before .args in
+    let o = a .outer in
+    (c .element-at .ensures, rw (c .element-at .ensures) (each-start (memberFit (a .depth) (a .s .now) o) (a .s .now) (o .start) (o .stop)))
+
+check-run-returns : (t : ℕ) → check-run-lts.Need-returns (
+  element-at-reads.Asked,
+  element-at-reads.Learnt,
+  check-element-below t,
+  check-element.Post,
+  is-sorted-reads.Asked,
+  is-sorted-reads.Learnt,
+) (check-run-at t) check-run.Post check-run-Inv-loop check-run-μ-loop
+check-run-returns t c =
+    let a = c .before .before .before .before .before .before .args in
+    let l = c .before .before .before .loop in
+    let j = memberFit (a .depth) (a .s .now) (a .outer) in
+    sym (each-broken j (a .s .now) (l .at) (a .outer .stop) (l .former) (l .inv .0) (c .before .before .loop-test .taken) (not-true _ (c .if1 .taken)))
+    ∙ l .inv .1
+
+check-run-check-element-requires : (t : ℕ) → check-run-lts.Need-check-element-requires (
+  element-at-reads.Asked,
+  element-at-reads.Learnt,
+  check-element-below t,
+  check-element.Post,
+  is-sorted-reads.Asked,
+  is-sorted-reads.Learnt,
+) (check-run-at t) check-run.Post check-run-Inv-loop check-run-μ-loop
+check-run-check-element-requires t c κs = omega arith
+
+check-run-enum-known-o : (t : ℕ) → check-run-lts.Need-enum-known-o (
+  element-at-reads.Asked,
+  element-at-reads.Learnt,
+  check-element-below t,
+  check-element.Post,
+  is-sorted-reads.Asked,
+  is-sorted-reads.Learnt,
+) (check-run-at t) check-run.Post check-run-Inv-loop check-run-μ-loop
+check-run-enum-known-o t c = search needs
+
+check-run-returns-2 : (t : ℕ) → check-run-lts.Need-returns-2 (
+  element-at-reads.Asked,
+  element-at-reads.Learnt,
+  check-element-below t,
+  check-element.Post,
+  is-sorted-reads.Asked,
+  is-sorted-reads.Learnt,
+) (check-run-at t) check-run.Post check-run-Inv-loop check-run-μ-loop
+check-run-returns-2 t c =
+    let a = c .before .before .before .before .before .before .before .before .before .before .args in
+    let l = c .before .before .before .before .before .before .before .loop in
+    let j = memberFit (a .depth) (a .s .now) (a .outer) in
+    let g = not-false _ (c .before .before .before .before .if1 .left) in
+    let b = sym (c .before .before .before .check-element .ensures) ∙ c .before .o .given .1 in
+    sym (each-breaks j (a .s .now) (l .at) (a .outer .stop) (l .former) (l .inv .0) g (then-breaks _ b)) ∙ l .inv .1
+
+check-run-enum-told : (t : ℕ) → check-run-lts.Need-enum-told (
+  element-at-reads.Asked,
+  element-at-reads.Learnt,
+  check-element-below t,
+  check-element.Post,
+  is-sorted-reads.Asked,
+  is-sorted-reads.Learnt,
+) (check-run-at t) check-run.Post check-run-Inv-loop check-run-μ-loop
+check-run-enum-told t c = search needs
+
+check-run-is-sorted-requires : (t : ℕ) → check-run-lts.Need-is-sorted-requires (
+  element-at-reads.Asked,
+  element-at-reads.Learnt,
+  check-element-below t,
+  check-element.Post,
+  is-sorted-reads.Asked,
+  is-sorted-reads.Learnt,
+) (check-run-at t) check-run.Post check-run-Inv-loop check-run-μ-loop
+check-run-is-sorted-requires t c κs = search needs
+
+check-run-returns-3 : (t : ℕ) → check-run-lts.Need-returns-3 (
+  element-at-reads.Asked,
+  element-at-reads.Learnt,
+  check-element-below t,
+  check-element.Post,
+  is-sorted-reads.Asked,
+  is-sorted-reads.Learnt,
+) (check-run-at t) check-run.Post check-run-Inv-loop check-run-μ-loop
+check-run-returns-3 t c =
+    let a = c .before .before .before .before .before .before .before .before .before .before .before .args in
+    let l = c .before .before .before .before .before .before .before .before .loop in
+    let j = memberFit (a .depth) (a .s .now) (a .outer) in
+    let g = not-false _ (c .before .before .before .before .before .if1 .left) in
+    let f = sym (c .before .before .before .before .check-element .ensures) ∙ c .before .before .enum-told .given .1 in
+    let b = sym (c .before .is-sorted .ensures) ∙ not-true _ (c .if2 .taken) in
+    sym (each-breaks j (a .s .now) (l .at) (a .outer .stop) (l .former) (l .inv .0) g (then-fits _ f ∙ held-breaks _ b)) ∙ l .inv .1
+
+check-run-element-at-requires-2 : (t : ℕ) → check-run-lts.Need-element-at-requires-2 (
+  element-at-reads.Asked,
+  element-at-reads.Learnt,
+  check-element-below t,
+  check-element.Post,
+  is-sorted-reads.Asked,
+  is-sorted-reads.Learnt,
+) (check-run-at t) check-run.Post check-run-Inv-loop check-run-μ-loop
+check-run-element-at-requires-2 t c κs = search needs
+
+check-run-loop-less : (t : ℕ) → check-run-lts.Need-loop-less (
+  element-at-reads.Asked,
+  element-at-reads.Learnt,
+  check-element-below t,
+  check-element.Post,
+  is-sorted-reads.Asked,
+  is-sorted-reads.Learnt,
+) (check-run-at t) check-run.Post check-run-Inv-loop check-run-μ-loop
+check-run-loop-less t c =
+    let a = c .before .before .before .before .before .before .before .before .before .before .before .before .args in
+    let l = c .before .before .before .before .before .before .before .before .before .loop in
+    let w = good-within (a .s .now) (l .at) (a .outer .stop) (l .inv .0) (not-false _ (c .before .before .before .before .before .before .if1 .left)) in
+    omega (arith, w)
+
+check-run-loop-again : (t : ℕ) → check-run-lts.Need-loop-again (
+  element-at-reads.Asked,
+  element-at-reads.Learnt,
+  check-element-below t,
+  check-element.Post,
+  is-sorted-reads.Asked,
+  is-sorted-reads.Learnt,
+) (check-run-at t) check-run.Post check-run-Inv-loop check-run-μ-loop
+check-run-loop-again t c =
+    let a = c .before .before .before .before .before .before .before .before .before .before .before .before .args in
+    let l = c .before .before .before .before .before .before .before .before .before .loop in
+    let j = memberFit (a .depth) (a .s .now) (a .outer) in
+    let g = not-false _ (c .before .before .before .before .before .before .if1 .left) in
+    let f = sym (c .before .before .before .before .before .check-element .ensures) ∙ c .before .before .before .enum-told .given .1 in
+    let b = sym (c .before .before .is-sorted .ensures) ∙ not-false _ (c .before .if2 .left) in (
+      c .element-at2 .ensures,
+      sym (each-turn j (a .s .now) (l .at) (a .outer .stop) (l .former) (l .inv .0) g (then-fits _ f ∙ held-fits _ b)) ∙ l .inv .1,
+    )
+
+check-run-returns-4 : (t : ℕ) → check-run-lts.Need-returns-4 (
+  element-at-reads.Asked,
+  element-at-reads.Learnt,
+  check-element-below t,
+  check-element.Post,
+  is-sorted-reads.Asked,
+  is-sorted-reads.Learnt,
+) (check-run-at t) check-run.Post check-run-Inv-loop check-run-μ-loop
+check-run-returns-4 t c =
+    let a = c .before .before .before .before .args in
+    let l = c .before .loop in
+    let j = memberFit (a .depth) (a .s .now) (a .outer) in
+    sym (each-end j (a .s .now) (l .at) (a .outer .stop) (l .former) (c .loop-test .left)) ∙ l .inv .1
+
+pub +check-element+check-run-spec : {M : Type 1} → statement M
++check-element+check-run-spec = close μ-check-element μ-check-run (λ t. check-element-lts.spec (
+  is-constructed-reads.Asked,
+  is-constructed-reads.Learnt,
+  check-run-below t,
+  check-run.Post,
+  check-contents-reads.Asked,
+  check-contents-reads.Learnt,
+)
+    (check-element-at t)
+    check-element.Post
+    (check-element-returns t)
+    (check-element-returns-2 t)
+    (check-element-is-constructed-requires t)
+    (check-element-sub-check-run t)
+    (check-element-check-run-requires t)
+    (check-element-returns-3 t)
+    (check-element-check-contents-requires t)
+    (check-element-returns-4 t))
+    λ t. check-run-lts.spec (
+      element-at-reads.Asked,
+      element-at-reads.Learnt,
+      check-element-below t,
+      check-element.Post,
+      is-sorted-reads.Asked,
+      is-sorted-reads.Learnt,
+    )
+    (check-run-at t)
+    check-run.Post
+    check-run-Inv-loop
+    check-run-μ-loop
+    (check-run-element-at-requires t)
+    (check-run-loop-holds t)
+    (check-run-returns t)
+    (check-run-check-element-requires t)
+    (check-run-enum-known-o t)
+    (check-run-returns-2 t)
+    (check-run-enum-told t)
+    (check-run-is-sorted-requires t)
+    (check-run-returns-3 t)
+    (check-run-element-at-requires-2 t)
+    (check-run-loop-less t)
+    (check-run-loop-again t)
+    (check-run-returns-4 t)

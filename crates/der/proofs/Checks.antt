@@ -1,0 +1,79 @@
+-- `der`, `sortedIn` and `spans`, one way through their tests at a time.
+use Prim.Native.Nat.{ℕ, zero, suc, _-_, _≤_, _<_}
+use native.Mathlib.Omega.{arith}
+use mathlib.Core.Bool.{true, false}
+use mathlib.Core.List.{List}
+use mathlib.Core.Path.{_≡_, refl, _∙_}
+use lib.Dec.{eqb}
+use borrow.Author.Tests.{lt-ltb, le-ltb, eq-eqb, ne-eqb}
+use Rattle.octets.specs.Octets.{ordered}
+use Rattle.der.specs.declared.Element.{Element}
+use Rattle.der.specs.declared.Fit.{Fit}
+use Rattle.der.specs.declared.Fit.the-variants.{Breaks}
+use Rattle.der.specs.Element.{elementAt, inside, whole, contents, constructed}
+use Rattle.der.specs.Fit.{andThen, held, each}
+use Rattle.der.specs.Contents.{contentsOk}
+use Rattle.der.specs.Check.{sortedIn, der, spans}
+use Rattle.der.proofs.Bools.{on-true, on-false}
+
+-- the judge of a run: the member m of `outer`, with d levels left for it
+abbrev pub memberFit : ℕ → List ℕ → Element → Element → Element → Fit
+memberFit d s outer former m = andThen (der d s m) (held (m .at) (sortedIn outer s former m))
+
+module _ (outer : Element) (s : List ℕ) (former e : Element) where
+  pub sorted-other : (outer .tag ≡ 49 → ⊥) → sortedIn outer s former e ≡ true
+  unfolding sortedIn
+  sorted-other n = on-false (eqb (outer .tag) 49) (ordered (whole s former) (whole s e)) true (ne-eqb _ _ n)
+
+  pub sorted-set : outer .tag ≡ 49 → sortedIn outer s former e ≡ ordered (whole s former) (whole s e)
+  unfolding sortedIn
+  sorted-set h = on-true (eqb (outer .tag) 49) (ordered (whole s former) (whole s e)) true (eq-eqb _ _ h)
+
+module _ (s : List ℕ) (e : Element) where
+  opened : ℕ → Fit
+  opened d =
+      elim (constructed (e .tag)) [ true ↦ each (memberFit d s e) (inside s e) | false ↦ held (e .at) (contentsOk (e .tag) (contents s e)) ]
+
+  pub der-deep : (d : ℕ) → d ≡ 0 → der d s e ≡ Breaks (e .at)
+  unfolding der
+  der-deep d h = rw h
+
+  pub der-bad : (d : ℕ) → e .good ≡ false → der d s e ≡ Breaks (e .at)
+  unfolding der opened
+  der-bad zero g = refl
+  der-bad (suc d) g = on-false (e .good) (opened d) (Breaks (e .at)) g
+
+  pub der-run : (d : ℕ) → (d ≡ 0 → ⊥) → e .good ≡ true → constructed (e .tag) ≡ true → der d s e ≡ each (memberFit (d - 1) s e) (inside s e)
+  unfolding der opened
+  der-run zero n g k = absurd (n refl)
+  der-run (suc d) n g k =
+      let p : suc d - 1 ≡ d = omega arith in
+      rw p
+      (on-true (e .good) (opened d) (Breaks (e .at)) g
+      ∙ on-true
+      (constructed (e .tag))
+      (each (memberFit d s e) (inside s e))
+      (held (e .at) (contentsOk (e .tag) (contents s e)))
+      k)
+
+  pub der-leaf : (d : ℕ) → (d ≡ 0 → ⊥) → e .good ≡ true → constructed (e .tag) ≡ false
+      → der d s e ≡ held (e .at) (contentsOk (e .tag) (contents s e))
+  unfolding der opened
+  der-leaf zero n g k = absurd (n refl)
+  der-leaf (suc d) n g k =
+      on-true (e .good) (opened d) (Breaks (e .at)) g
+      ∙ on-false
+      (constructed (e .tag))
+      (each (memberFit d s e) (inside s e))
+      (held (e .at) (contentsOk (e .tag) (contents s e)))
+      k
+
+module _ (d : ℕ) (s : List ℕ) (at stop outer : ℕ) where
+  pub spans-none : stop ≤ at → spans d s at stop outer ≡ Breaks outer
+  unfolding spans
+  spans-none h = rw (le-ltb _ _ h, spans)
+
+  pub spans-one : at < stop → {e : Element} → e ≡ elementAt s at stop
+      → spans d s at stop outer ≡ andThen (der d s e) (held (e .stop) (eqb (e .stop) stop))
+  unfolding spans
+  spans-one l q = rw (q, lt-ltb _ _ l, spans)

@@ -1,0 +1,114 @@
+-- A header's rules as facts, and what `elementAt` is where they hold and where one breaks. Only this file and Elements open `elementAt`.
+use Prim.Native.Nat.{ℕ, suc, _+_, _-_, _*_, _%_, _≤_, _<_}
+use native.Mathlib.Numerals.{add-one}
+use native.Mathlib.Omega.{arith}
+use mathlib.Core.Bool.{true, false, not, and-eq-true-iff, true≢false}
+use mathlib.Core.List.{List}
+use mathlib.Core.Path.{_≡_, refl, sym, ap, _∙_}
+use lib.ListN.{length}
+use lib.Seq.{drop-cons}
+use lib.Dec.{ltb, leb, eqb}
+use borrow.Author.Tests.{ltb-true, ltb-false, leb-true, eqb-false, not-true, lt-ltb, le-ltb, le-leb, eq-eqb, ne-eqb}
+use Rattle.octets.specs.Octets.{octet, part}
+use Rattle.octets.specs.Number.{numberFrom}
+use Rattle.octets.proofs.Lists.{by-test, both}
+use Rattle.octets.proofs.Parts.{part-none}
+use Rattle.der.specs.Element.{absent, lengthAt, lengthShortest, contentsAt, headed, elementAt}
+use Rattle.der.proofs.Bools.{and-false}
+
+pub record Header (s : List ℕ) (at stop : ℕ) : Type 0 where
+  pub within : stop ≤ length s
+  pub room : at + 2 ≤ stop
+  pub low-tag : octet s at % 32 ≡ 31 → ⊥
+  pub begins : contentsAt s at ≤ stop
+  pub shortest : lengthShortest s at ≡ true
+  pub ends : contentsAt s at + lengthAt s at ≤ stop
+
+module _ (s : List ℕ) (at stop : ℕ) where
+  pub header-is : headed s at stop ≡ true → Header s at stop
+  unfolding headed
+  header-is e =
+      let five = and-eq-true-iff _ _ .0 e in
+      let four = and-eq-true-iff _ _ .0 (five .0) in
+      let three = and-eq-true-iff _ _ .0 (four .0) in
+      let two = and-eq-true-iff _ _ .0 (three .0) in
+      let one = and-eq-true-iff _ _ .0 (two .0) in
+      record {
+        within = leb-true stop (length s) (one .0);
+        room = leb-true (at + 2) stop (one .1);
+        low-tag = eqb-false (octet s at % 32) 31 (not-true _ (two .1));
+        begins = leb-true (contentsAt s at) stop (three .1);
+        shortest = four .1;
+        ends = leb-true (contentsAt s at + lengthAt s at) stop (five .1);
+      }
+
+  pub header-holds : Header s at stop → headed s at stop ≡ true
+  unfolding headed
+  header-holds h =
+      both (both (both (both (both
+      (le-leb _ _ (h .within))
+      (le-leb _ _ (h .room)))
+      (ap not (ne-eqb _ _ (h .low-tag))))
+      (le-leb _ _ (h .begins)))
+      (h .shortest))
+      (le-leb _ _ (h .ends))
+
+  -- a header stands there or not
+  pub header-or-not : {P : Type 0} → (Header s at stop → P) → ((Header s at stop → ⊥) → P) → P
+  header-or-not f g = by-test (headed s at stop) (λ e. f (header-is e)) (λ e. g (λ h. true≢false (sym (header-holds h) ∙ e)))
+
+  pub element-is : Header s at stop
+      → elementAt s at stop ≡ record { good = true; tag = octet s at; at = at; start = contentsAt s at; stop = contentsAt s at + lengthAt s at }
+  unfolding elementAt
+  element-is h = rw (header-holds h, elementAt)
+
+  pub element-absent : (Header s at stop → ⊥) → elementAt s at stop ≡ absent at
+  unfolding elementAt
+  element-absent n = by-test (headed s at stop) (λ e. absurd (n (header-is e))) (λ e. rw (e, elementAt))
+
+-- the length octets
+
+module _ (s : List ℕ) (at n : ℕ) where
+  -- the short form is the long form of no further octets
+  pub length-from : (octet s (at + 1) < 128 → n ≡ octet s (at + 1)) → (128 ≤ octet s (at + 1) → n ≡ 0)
+      → numberFrom n (part s (at + 2) (contentsAt s at)) ≡ lengthAt s at
+  unfolding lengthAt numberFrom
+  length-from short long =
+      by-test (ltb (octet s (at + 1)) 128)
+      (λ e.
+      let l = ltb-true (octet s (at + 1)) 128 e in
+      rw (part-none s (at + 2) (contentsAt s at) (omega arith), e, lengthAt) (short l))
+      (λ e. rw (e, lengthAt, long (ltb-false (octet s (at + 1)) 128 e)))
+
+-- the octets from i on up to e, the next one in front
+pub part-turn : (s : List ℕ) (i e n : ℕ) → i < e → e ≤ length s → numberFrom n (part s i e) ≡ numberFrom (n * 256 + octet s i) (part s (i + 1) e)
+unfolding numberFrom
+part-turn s i e n l h =
+    let q : e - i ≡ suc (e - (i + 1)) = omega arith in
+    let m : i < length s = omega arith in
+    rw (q, drop-cons s i 0 m, add-one)
+
+-- shortest or not, by the octets
+
+module _ (s : List ℕ) (at : ℕ) where
+  pub short-form : octet s (at + 1) < 128 → lengthShortest s at ≡ true
+  unfolding lengthShortest
+  short-form l = rw (lt-ltb _ _ l, lengthShortest)
+
+  pub indefinite-form : octet s (at + 1) ≡ 128 → lengthShortest s at ≡ false
+  unfolding lengthShortest numberFrom
+  indefinite-form e =
+      let l : 128 ≤ octet s (at + 1) = omega arith in
+      let n : lengthAt s at ≡ 0 =
+      sym (length-from s at 0 (λ l. absurd (omega arith)) (λ l. refl))
+      ∙ ap (numberFrom 0) (part-none s (at + 2) (contentsAt s at) (omega arith))
+      in
+      rw (le-ltb _ _ l, n, lengthShortest) (and-false (not (eqb (octet s (at + 2)) 0)))
+
+  pub padded-form : 128 ≤ octet s (at + 1) → octet s (at + 2) ≡ 0 → lengthShortest s at ≡ false
+  unfolding lengthShortest
+  padded-form l z = rw (le-ltb _ _ l, eq-eqb _ _ z, lengthShortest)
+
+  pub long-form : 128 ≤ octet s (at + 1) → (octet s (at + 2) ≡ 0 → ⊥) → lengthShortest s at ≡ leb 128 (lengthAt s at)
+  unfolding lengthShortest
+  long-form l z = rw (le-ltb _ _ l, ne-eqb _ _ z, lengthShortest)

@@ -1,0 +1,52 @@
+-- `der::contents_ok` meets its contract. Assumes nothing.
+use borrow.Author.Needs.{needs}
+use mathlib.Core.Path.{sym}
+use Rattle.der.specs.Contents.{contentsOk}
+use Rattle.der.proofs.Leaves.{contents-free}
+use Rattle.der.proofs.contents_ok.Statement.{statement}
+use Rattle.der.proofs.contents_ok.Tie as tie
+
+is-boolean-requires : tie.Need-is-boolean-requires
+is-boolean-requires c κs = search needs
+
+returns : tie.Need-returns
+unfolding contentsOk
+returns c = rw (c .before .if1 .taken) (c .is-boolean .ensures)
+
+is-integer-requires : tie.Need-is-integer-requires
+is-integer-requires c κs = search needs
+
+returns-2 : tie.Need-returns-2
+unfolding contentsOk
+returns-2 c = rw (c .before .if2 .taken) (c .is-integer .ensures)
+
+is-integer-requires-2 : tie.Need-is-integer-requires-2
+is-integer-requires-2 c κs = search needs
+
+returns-3 : tie.Need-returns-3
+unfolding contentsOk
+returns-3 c = rw (c .before .if3 .taken) (c .is-integer2 .ensures)
+
+is-oid-requires : tie.Need-is-oid-requires
+is-oid-requires c κs = search needs
+
+returns-4 : tie.Need-returns-4
+unfolding contentsOk
+returns-4 c = rw (c .before .if4 .taken) (c .is-oid .ensures)
+
+returns-5 : tie.Need-returns-5
+returns-5 c = sym (contents-free _ _ (c .before .before .before .if1 .left) (c .before .before .if2 .left) (c .before .if3 .left) (c .if4 .left))
+
+pub contents-ok-spec : {M : Type 1} → statement M
+contents-ok-spec =
+    tie.close
+    (tie.spec
+    is-boolean-requires
+    returns
+    is-integer-requires
+    returns-2
+    is-integer-requires-2
+    returns-3
+    is-oid-requires
+    returns-4
+    returns-5)

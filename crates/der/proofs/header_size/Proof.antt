@@ -1,0 +1,24 @@
+-- `der::header_size` meets its contract. Assumes nothing.
+use native.Mathlib.Omega.{arith}
+use borrow.Author.Needs.{needs}
+use mathlib.Core.Path.{ap}
+use lib.ListN.{length}
+use Rattle.octets.proofs.Number.{length-digits}
+use Rattle.der.proofs.Writes.{short-octets, long-octets}
+use Rattle.der.proofs.header_size.Statement.{statement}
+use Rattle.der.proofs.header_size.Tie as tie
+
+returns : tie.Need-returns
+returns c = omega (arith, ap length (short-octets (c .before .args .n) (c .if1 .taken)))
+
+digit-count-requires : tie.Need-digit-count-requires
+digit-count-requires c κs = search needs
+
+add-result : tie.Need-add-result
+add-result c = omega (arith, c .digit-count .ensures, length-digits 8 (c .before .before .args .n))
+
+returns-2 : tie.Need-returns-2
+returns-2 c = omega (arith, c .digit-count .ensures, ap length (long-octets (c .before .before .args .n) (c .before .if1 .left)))
+
+pub header-size-spec : {M : Type 1} → statement M
+header-size-spec = tie.close (tie.spec returns digit-count-requires add-result returns-2)

@@ -1,0 +1,32 @@
+-- `der::is_sorted` meets its contract. Assumes nothing.
+use borrow.Author.Needs.{needs}
+use mathlib.Core.Path.{sym, ap₂, _∙_}
+use Rattle.octets.specs.Octets.{ordered}
+use Rattle.der.proofs.Checks.{sorted-other, sorted-set}
+use Rattle.der.proofs.is_sorted.Statement.{statement}
+use Rattle.der.proofs.is_sorted.Tie as tie
+
+returns : tie.Need-returns
+returns c =
+    let a = c .before .before .before .args in
+    sym (sorted-other (a .outer) (a .s .now) (a .former) (a .e) (c .if1 .taken))
+
+whole-requires : tie.Need-whole-requires
+whole-requires c κs = search needs
+
+whole-requires-2 : tie.Need-whole-requires-2
+whole-requires-2 c κs = search needs
+
+in-order-requires : tie.Need-in-order-requires
+in-order-requires c κs = search needs
+
+returns-2 : tie.Need-returns-2
+returns-2 c =
+    let a = c .before .before .before .before .before .before .args in
+    c .in-order .ensures
+    ∙ ap₂ ordered (c .before .before .whole .ensures) (c .before .whole2 .ensures)
+    ∙ sym (sorted-set (a .outer) (a .s .now) (a .former) (a .e) (c .before .before .before .if1 .left))
+
+pub is-sorted-spec : {M : Type 1} → statement M
+is-sorted-spec =
+    tie.close (tie.spec returns whole-requires whole-requires-2 in-order-requires returns-2)

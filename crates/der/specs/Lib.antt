@@ -1,0 +1,6 @@
+pub mod Element
+pub mod Fit
+pub mod Contents
+pub mod Check
+pub mod Write
+pub mod Oid

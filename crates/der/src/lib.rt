@@ -1,0 +1,402 @@
+// DER as 01 profiles it (X.690).
+ghost use mathlib.Core.Path.{_≡_};
+ghost use Prim.Native.Nat.{_+_, _≤_, _<_, min};
+ghost use mathlib.Core.Bool.{_&&_};
+ghost use lib.ListN.{length};
+ghost use lib.Dec.{eqb};
+ghost use Rattle.octets.specs.Octets.{placed};
+ghost use Rattle.der.specs.Element.{
+  absent,
+  lengthOctetsBehind,
+  lengthAt,
+  lengthShortest,
+  contentsAt,
+  elementAt,
+  elements,
+  whole as wholeOf,
+  contents as contentsOf,
+  inside,
+  constructed,
+  withTag,
+  field as fieldOf,
+  fieldBehind,
+};
+ghost use Rattle.der.specs.Fit.{andThen, held, each};
+ghost use Rattle.der.specs.Contents.{integerOk, booleanOk, oidOk, contentsOk};
+ghost use Rattle.der.specs.Check.{sortedIn, der, spans as spansOf};
+ghost use Rattle.der.specs.Write.{lengthOctets, header};
+
+// An element: its identifier octet, where it begins, and its contents, from start up to stop.
+// Where no element stands at a place, good is false, the tag is 0 and nothing is inside.
+pub struct Element {
+    pub good: bool,
+    pub tag: u8,
+    pub at: usize,
+    pub start: usize,
+    pub stop: usize,
+}
+
+// Whether octets keep a rule; if not, the offset of the element that breaks it.
+pub enum Fit {
+    Fits,
+    Breaks(usize),
+}
+
+fn no_element(at: usize) -> Element
+    ensures { λ r. ⌜ r ≡ absent at ⌝ }
+{
+    Element {
+        good: false,
+        tag: 0,
+        at: at,
+        start: at,
+        stop: at,
+    }
+}
+
+fn wide(x: u8) -> usize
+    ensures { λ r. ⌜ r ≡ x ⌝ }
+{
+    x as usize
+}
+
+// How many length octets stand behind the first.
+fn octets_behind(first: u8) -> usize
+    ensures { λ r. ⌜ r ≡ lengthOctetsBehind first ⌝ }
+{
+    if first < 128 {
+        return 0;
+    }
+    wide(first) - 128
+}
+
+// What the first length octet gives of the length: all of it in the short form, nothing in the long one.
+fn short_length(first: u8) -> usize
+    ensures { λ r. ⌜ ((first < 128 → r ≡ first) × (128 ≤ first → r ≡ 0)) ⌝ }
+{
+    if first < 128 {
+        return wide(first);
+    }
+    0
+}
+
+// The length that the length octets write, where the contents begin at start and there is room for some octets behind it. One that is too large for the room
+// comes out as some number above it: the loop stops before it could wrap.
+fn length_at(s: &[u8], at: usize, start: usize, room: usize) -> usize
+    requires { ⌜ (start ≡ contentsAt (now s) at) × (start + room ≤ length (now s)) ⌝ }
+    ensures { λ r. ⌜ min r (room + 1) ≡ min (lengthAt (now (s .entry)) at) (room + 1) ⌝ }
+{
+    let mut n = short_length(s[at + 1]);
+    let mut i = at + 2;
+    while i < start {
+        if room / 256 < n {
+            return room + 1;
+        }
+        n = n * 256 + wide(s[i]);
+        i += 1;
+    }
+    n
+}
+
+// The length n is written in the shortest way: 81 7F is wrong, 81 80 right.
+fn is_shortest(s: &[u8], at: usize, n: usize) -> bool
+    requires { ⌜ (contentsAt (now s) at ≤ length (now s)) × (n ≡ lengthAt (now s) at) ⌝ }
+    ensures { λ r. ⌜ r ≡ lengthShortest (now (s .entry)) at ⌝ }
+{
+    let first = s[at + 1];
+    if first < 128 {
+        return true;
+    }
+    if first == 128 {
+        return false;
+    }
+    if s[at + 2] == 0 {
+        return false;
+    }
+    128 <= n
+}
+
+// The element at a place of the window that ends at stop.
+pub fn element_at(s: &[u8], at: usize, stop: usize) -> Element
+    ensures { λ r. ⌜ r ≡ elementAt (now (s .entry)) at stop ⌝ }
+{
+    if s.len() < stop {
+        return no_element(at);
+    }
+    if stop < at {
+        return no_element(at);
+    }
+    if stop - at < 2 {
+        return no_element(at);
+    }
+    let tag = s[at];
+    if tag % 32 == 31 {
+        return no_element(at);
+    }
+    let more = octets_behind(s[at + 1]);
+    if stop - at - 2 < more {
+        return no_element(at);
+    }
+    let start = at + 2 + more;
+    let n = length_at(s, at, start, stop - start);
+    if stop - start < n {
+        return no_element(at);
+    }
+    if !is_shortest(s, at, n) {
+        return no_element(at);
+    }
+    Element {
+        good: true,
+        tag: tag,
+        at: at,
+        start: start,
+        stop: start + n,
+    }
+}
+
+// INTEGER and ENUMERATED: not empty and shortest.
+pub fn is_integer(o: &[u8]) -> bool
+    ensures { λ r. ⌜ r ≡ integerOk (now (o .entry)) ⌝ }
+{
+    if o.len() == 0 {
+        return false;
+    }
+    if o.len() == 1 {
+        return true;
+    }
+    if o[0] == 0 {
+        return 128 <= o[1];
+    }
+    if o[0] == 255 {
+        return o[1] < 128;
+    }
+    true
+}
+
+// BOOLEAN: 00 or FF.
+pub fn is_boolean(o: &[u8]) -> bool
+    ensures { λ r. ⌜ r ≡ booleanOk (now (o .entry)) ⌝ }
+{
+    if o.len() != 1 {
+        return false;
+    }
+    if o[0] == 0 {
+        return true;
+    }
+    o[0] == 255
+}
+
+// An arc that begins with 80 is not shortest.
+fn is_padding(fresh: bool, x: u8) -> bool
+    ensures { λ r. ⌜ r ≡ fresh && eqb x 128 ⌝ }
+{
+    if fresh {
+        return x == 128;
+    }
+    false
+}
+
+// OID: not empty, each arc shortest; an arc's last octet is below 80.
+pub fn is_oid(o: &[u8]) -> bool
+    ensures { λ r. ⌜ r ≡ oidOk (now (o .entry)) ⌝ }
+{
+    if o.len() == 0 {
+        return false;
+    }
+    let mut fresh = true;
+    let mut i = 0;
+    while i < o.len() {
+        let x = o[i];
+        if is_padding(fresh, x) {
+            return false;
+        }
+        fresh = x < 128;
+        i += 1;
+    }
+    fresh
+}
+
+// What the contents o of a primitive element with this tag must be.
+pub fn contents_ok(tag: u8, o: &[u8]) -> bool
+    ensures { λ r. ⌜ r ≡ contentsOk tag (now (o .entry)) ⌝ }
+{
+    if tag == 1 {
+        return is_boolean(o);
+    }
+    if tag == 2 {
+        return is_integer(o);
+    }
+    if tag == 10 {
+        return is_integer(o);
+    }
+    if tag == 6 {
+        return is_oid(o);
+    }
+    true
+}
+
+// An element's contents, and all of it, as parts of the caller's slice.
+pub fn contents(s: &[u8], e: Element) -> &[u8]
+    ensures { λ r. ⌜ now r ≡ contentsOf (now (s .entry)) e ⌝ }
+{
+    octets::part(s, e.start, e.stop)
+}
+
+pub fn whole(s: &[u8], e: Element) -> &[u8]
+    ensures { λ r. ⌜ now r ≡ wholeOf (now (s .entry)) e ⌝ }
+{
+    octets::part(s, e.at, e.stop)
+}
+
+pub fn is_constructed(tag: u8) -> bool
+    ensures { λ r. ⌜ r ≡ constructed tag ⌝ }
+{
+    tag / 32 % 2 == 1
+}
+
+// The rule of a primitive element's contents.
+fn check_contents(s: &[u8], e: Element) -> Fit
+    ensures { λ r. ⌜ r ≡ held (e .at) (contentsOk (e .tag) (contentsOf (now (s .entry)) e)) ⌝ }
+{
+    if contents_ok(e.tag, contents(s, e)) {
+        return Fit::Fits;
+    }
+    Fit::Breaks(e.at)
+}
+
+// In a SET: the member e stands in order behind the one before it.
+fn is_sorted(s: &[u8], outer: Element, former: Element, e: Element) -> bool
+    ensures { λ r. ⌜ r ≡ sortedIn outer (now (s .entry)) former e ⌝ }
+{
+    if outer.tag != 49 {
+        return true;
+    }
+    octets::in_order(whole(s, former), whole(s, e))
+}
+
+// The element e, and all in it, with this depth left for it.
+pub fn check_element(s: &[u8], e: Element, depth: usize) -> Fit
+    ensures { λ r. ⌜ r ≡ der depth (now (s .entry)) e ⌝ }
+{
+    if depth == 0 {
+        return Fit::Breaks(e.at);
+    }
+    if !e.good {
+        return Fit::Breaks(e.at);
+    }
+    if is_constructed(e.tag) {
+        return check_run(s, e, depth - 1);
+    }
+    check_contents(s, e)
+}
+
+// The run of elements inside a constructed one fills it; each has this depth left for it, and in a SET stands in order.
+pub fn check_run(s: &[u8], outer: Element, depth: usize) -> Fit
+    ensures { λ r.
+        ⌜ r ≡ each
+        (λ former e. andThen (der depth (now (s .entry)) e) (held (e .at) (sortedIn outer (now (s .entry)) former e)))
+        (inside (now (s .entry)) outer) ⌝ }
+{
+    let stop = outer.stop;
+    let mut at = outer.start;
+    let mut e = element_at(s, at, stop);
+    let mut former = e;
+    while at < stop {
+        if !e.good {
+            return Fit::Breaks(e.at);
+        }
+        if let Fit::Breaks(o) = check_element(s, e, depth) {
+            return Fit::Breaks(o);
+        }
+        if !is_sorted(s, outer, former, e) {
+            return Fit::Breaks(e.at);
+        }
+        at = e.stop;
+        former = e;
+        e = element_at(s, at, stop);
+    }
+    Fit::Fits
+}
+
+// The octets from at up to stop are one element with this depth. Octets behind it are charged to the first of them; where there is no octet at all,
+// the element at `outer` is charged.
+pub fn spans(s: &[u8], at: usize, stop: usize, outer: usize, depth: usize) -> Fit
+    ensures { λ r. ⌜ r ≡ spansOf depth (now (s .entry)) at stop outer ⌝ }
+{
+    if stop <= at {
+        return Fit::Breaks(outer);
+    }
+    let e = element_at(s, at, stop);
+    if let Fit::Breaks(o) = check_element(s, e, depth) {
+        return Fit::Breaks(o);
+    }
+    if e.stop != stop {
+        return Fit::Breaks(e.stop);
+    }
+    Fit::Fits
+}
+
+// The first element with the tag in the run from at up to stop.
+pub fn with_tag(s: &[u8], at: usize, stop: usize, tag: u8) -> Element
+    ensures { λ r. ⌜ r ≡ withTag tag (elements (now (s .entry)) at stop) ⌝ }
+{
+    let mut i = at;
+    while i < stop {
+        let e = element_at(s, i, stop);
+        if e.tag == tag {
+            return e;
+        }
+        if !e.good {
+            return no_element(0);
+        }
+        i = e.stop;
+    }
+    no_element(0)
+}
+
+// The first field with the tag in the element e, and the first behind its field f.
+pub fn field(s: &[u8], e: Element, tag: u8) -> Element
+    ensures { λ r. ⌜ r ≡ fieldOf tag (now (s .entry)) e ⌝ }
+{
+    with_tag(s, e.start, e.stop, tag)
+}
+
+pub fn field_behind(s: &[u8], e: Element, f: Element, tag: u8) -> Element
+    ensures { λ r. ⌜ r ≡ fieldBehind tag (now (s .entry)) e f ⌝ }
+{
+    with_tag(s, f.stop, e.stop, tag)
+}
+
+// How many octets the header of n octets of contents takes.
+pub fn header_size(n: usize) -> usize
+    ensures { λ r. ⌜ r ≡ length (lengthOctets n) + 1 ⌝ }
+{
+    if n < 128 {
+        return 2;
+    }
+    octets::digit_count(n as u64) + 2
+}
+
+// Writes the length octets of n octets of contents; gives the place behind them.
+pub fn put_length(buf: &mut [u8], at: usize, n: usize) -> usize
+    requires { ⌜ at + length (lengthOctets n) ≤ length (now buf) ⌝ }
+    ensures { λ r. ⌜ (r ≡ at + length (lengthOctets n)) × (now (buf .exit) ≡ placed (now (buf .entry)) at (lengthOctets n)) ⌝ }
+{
+    if n < 128 {
+        buf[at] = n as u8;
+        return at + 1;
+    }
+    let k = octets::digit_count(n as u64);
+    buf[at] = (128 + k) as u8;
+    octets::put_be(buf, at + 1, k, n as u64);
+    at + 1 + k
+}
+
+// Writes the header of n octets of contents; gives the place behind it.
+pub fn put_header(buf: &mut [u8], at: usize, tag: u8, n: usize) -> usize
+    requires { ⌜ at + length (header tag n) ≤ length (now buf) ⌝ }
+    ensures { λ r. ⌜ (r ≡ at + length (header tag n)) × (now (buf .exit) ≡ placed (now (buf .entry)) at (header tag n)) ⌝ }
+{
+    buf[at] = tag;
+    put_length(buf, at + 1, n)
+}

@@ -1,0 +1,50 @@
+-- 01, Answers, status 7: the signed attributes.
+use Prim.Native.Nat.{ℕ}
+use mathlib.Core.Bool.{Bool, true, false, not, _&&_}
+use mathlib.Core.List.{List, [], _∷_, map}
+use Rattle.octets.specs.Lists.{anyOf}
+use Rattle.octets.specs.Octets.{same, member, ordered}
+use Rattle.der.specs.declared.Element.{Element}
+use Rattle.der.specs.declared.Fit.{Fit}
+use Rattle.der.specs.declared.Fit.the-variants.{Fits, Breaks}
+use Rattle.der.specs.Element.{elements, whole, inside}
+use Rattle.der.specs.Fit.{andThen, held, each}
+use Rattle.syntax.specs.Grammar.{Syntax, free, obeys, tagged, equals, fit}
+use Rattle.syntax.specs.Asn.{Attribute}
+use Rattle.syntax.specs.Types.{id-contentType, id-messageDigest}
+use Rattle.rights.specs.Attributes.{attrType}
+
+-- what may stand as the value of an attribute: content-type is eContentType ("content-type unequal"), message-digest is an OCTET STRING (RFC 5652, 11.2),
+-- any other value is free
+unfoldable pub valueSyntax : List ℕ → List ℕ → Syntax
+valueSyntax eContentType type =
+    elim (same type id-contentType) [
+      | true ↦ tagged 0x06 (obeys (equals eContentType) free)
+      | false ↦ elim (same type id-messageDigest) [ true ↦ tagged 0x04 free | false ↦ free ]
+    ]
+
+-- "malformed, not one value each": the Attribute by itself
+unfoldable pub attributeFit : List ℕ → List ℕ → Element → Fit
+attributeFit eContentType s e = fit (tagged 0x30 (Attribute (valueSyntax eContentType (attrType s e)))) s (e .at) (e .stop) (e .at)
+
+-- "a type repeated": it is the type of an attribute before e in signedAttrs
+unfoldable pub repeated : List ℕ → Element → Element → Bool
+repeated s attributes e = member (attrType s e) (map (attrType s) (elements s (attributes .start) (e .at)))
+
+-- "content-type or message-digest missing"
+unfoldable pub hasType : List ℕ → Element → List ℕ → Bool
+hasType s attributes type = anyOf (λ e. same type (attrType s e)) (inside s attributes)
+
+-- Status 7. Each attribute in turn: by itself, in order behind the one before it ("not sorted"), its type new; then both required ones are there.
+-- "absent" is charged to the SignerInfo, a missing type to signedAttrs.
+unfoldable pub attributesFit : List ℕ → List ℕ → Element → Element → Fit
+attributesFit eContentType s signerInfo attributes =
+    elim (attributes .good) [
+      | false ↦ Breaks (signerInfo .at)
+      | true ↦
+          andThen
+          (each
+          (λ former e. andThen (attributeFit eContentType s e) (held (e .at) (ordered (whole s former) (whole s e) && not (repeated s attributes e))))
+          (inside s attributes))
+          (held (attributes .at) (hasType s attributes id-contentType && hasType s attributes id-messageDigest))
+    ]

@@ -1,0 +1,104 @@
+-- 01, Answers: the rows 1, 29, 2, 3, 4, 9, 18, 5, 6, 7 and 8, each as its own definition, and their order.
+use Prim.Native.Nat.{ℕ}
+use mathlib.Core.Bool.{Bool, true, false, not, _&&_, _||_}
+use mathlib.Core.List.{List}
+use lib.ListN.{length}
+use Rattle.octets.specs.declared.Status.{Status}
+use Rattle.octets.specs.Status.{decodeFailure, missingSignature, badContentInfo, badSignedData, badEncapContent, missingContent, unsupportedTAMPMsgType}
+use Rattle.octets.specs.Status.{badCertificate, badSignerInfo, badSignedAttrs, badUnsignedAttrs}
+use Rattle.octets.specs.First.{givenIf}
+use Rattle.octets.specs.Limits.{maxDepth}
+use Rattle.der.specs.declared.Element.{Element}
+use Rattle.der.specs.declared.Fit.{Fit}
+use Rattle.der.specs.declared.Fit.the-variants.{Fits, Breaks}
+use Rattle.der.specs.Element.{absent, contents}
+use Rattle.der.specs.Fit.{held, kept, givenAt}
+use Rattle.der.specs.Check.{spans}
+use Rattle.syntax.specs.declared.TampType.{TampType}
+use Rattle.syntax.specs.declared.Recognised.{Recognised}
+use Rattle.syntax.specs.declared.Recognised.the-variants.{Tamp, Unknown}
+use Rattle.syntax.specs.Grammar.{end, required, fit}
+use Rattle.syntax.specs.Asn.{ContentInfo, ContentInfoSignedData, SignedData, EncapsulatedContentInfo, OneSignerInfo}
+use Rattle.syntax.specs.Types.{recognised}
+use Rattle.envelope.specs.declared.Signed.{Signed}
+use Rattle.envelope.specs.declared.Refusal.{Refusal}
+use Rattle.envelope.specs.declared.Envelope.{Envelope}
+use Rattle.envelope.specs.declared.Envelope.the-variants.{Opened, Refused}
+use Rattle.envelope.specs.Parts.{contentInfo, contentType, content, encapContentInfo, certificates, crls, signerInfos, eContentType, eContentTag, eContent}
+use Rattle.envelope.specs.Parts.{signerInfo, subjectKeyIdentifier, signedAttrs, unsignedAttrs}
+use Rattle.envelope.specs.Attributes.{attributesFit}
+
+abbrev pub isTamp : Recognised → Bool
+isTamp (Tamp t) = true
+isTamp Unknown = false
+
+-- 1: not DER (0 octets too)
+unfoldable pub row-1 : List ℕ → Fit
+row-1 s = spans maxDepth s 0 (length s) 0
+
+-- 29: ContentInfo's type is one of the four TAMP types
+unfoldable pub row-29 : List ℕ → Bool
+row-29 s = kept (fit ContentInfo s 0 (length s) 0) && isTamp (recognised (contents s (contentType s)))
+
+-- 2: not a ContentInfo of type signedData
+unfoldable pub row-2 : List ℕ → Fit
+row-2 s = fit ContentInfoSignedData s 0 (length s) 0
+
+-- 3: SignedData isn't version 3 with the fields of RFC 5652
+unfoldable pub row-3 : List ℕ → Fit
+row-3 s = let c = content s in fit (required 0x30 SignedData end) s (c .start) (c .stop) (c .at)
+
+-- 4: encapsulated content wrongly formed
+unfoldable pub row-4 : List ℕ → Fit
+row-4 s = let e = encapContentInfo s in fit EncapsulatedContentInfo s (e .start) (e .stop) (e .at)
+
+-- 9: eContent absent
+unfoldable pub row-9 : List ℕ → Bool
+row-9 s = not (eContentTag s .good)
+
+-- 18: eContentType isn't one of the four
+unfoldable pub row-18 : List ℕ → Recognised
+row-18 s = recognised (contents s (eContentType s))
+
+-- 5: certificates or CRLs present
+unfoldable pub row-5 : List ℕ → Bool
+row-5 s = certificates s .good || crls s .good
+
+-- 6: not exactly one SignerInfo, or it isn't version 3 with the fields of RFC 5652 and a subjectKeyIdentifier
+unfoldable pub row-6 : List ℕ → Fit
+row-6 s = let e = signerInfos s in fit OneSignerInfo s (e .start) (e .stop) (e .at)
+
+-- 7: signed attributes
+unfoldable pub row-7 : List ℕ → Fit
+row-7 s = attributesFit (contents s (eContentType s)) s (signerInfo s) (signedAttrs s)
+
+-- 8: unsigned attributes present
+unfoldable pub row-8 : List ℕ → Fit
+row-8 s = let u = unsignedAttrs s in held (u .at) (not (u .good))
+
+-- a refusal, with msgType where it has a reply ("Statuses 1, 2, 3 and 4 have no reply"), and without msgRef ("with msgRef from 127 on")
+abbrev pub refuse : Status → ℕ → Element → Envelope
+refuse status offset msgtype = Refused (record { status = status; offset = offset; msgtype = msgtype; msgref = absent 0 })
+
+-- row 18 hands on which of the four types it is
+unfoldable pub givenUnknown : Recognised → Envelope → (TampType → Envelope) → Envelope
+givenUnknown (Tamp t) answer next = next t
+givenUnknown Unknown answer next = answer
+
+-- what the rows up to 8 find
+unfoldable pub envelope : List ℕ → Envelope
+envelope s =
+    let about = eContentType s in
+    givenAt (row-1 s) (λ o. refuse decodeFailure o (absent 0))
+    (givenIf (row-29 s) (refuse missingSignature 0 (contentType s))
+    (givenAt (row-2 s) (λ o. refuse badContentInfo o (absent 0))
+    (givenAt (row-3 s) (λ o. refuse badSignedData o (absent 0))
+    (givenAt (row-4 s) (λ o. refuse badEncapContent o (absent 0))
+    (givenIf (row-9 s) (refuse missingContent 0 about)
+    (givenUnknown (row-18 s) (refuse unsupportedTAMPMsgType 0 about) λ kind.
+    (givenIf (row-5 s) (refuse badCertificate 0 about)
+    (givenAt (row-6 s) (λ o. refuse badSignerInfo o about)
+    (givenAt (row-7 s) (λ o. refuse badSignedAttrs o about)
+    (givenAt (row-8 s) (λ o. refuse badUnsignedAttrs o about)
+    (Opened
+    (record { kind = kind; msgtype = about; content = eContent s; signer = subjectKeyIdentifier s; attributes = signedAttrs s }))))))))))))

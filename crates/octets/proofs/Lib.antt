@@ -1,0 +1,5 @@
+pub mod Lists
+pub mod Compare
+pub mod Parts
+pub mod Placed
+pub mod Number

@@ -1,0 +1,79 @@
+-- `octets::move_down` meets its contract. The loop's invariant: the first i octets have been moved, and none of those that are left changed. Assumes nothing.
+use Prim.Native.Nat.{_+_, _-_, _≤_}
+use native.Mathlib.Omega.{arith}
+use borrow.Author.Needs.{needs}
+use mathlib.Core.Path.{_≡_, refl, sym, ap, _∙_}
+use lib.ListN.{length, take, drop, length-set}
+use lib.Seq.{take-all}
+use Rattle.octets.specs.Octets.{placed}
+use Rattle.octets.proofs.Parts.{length-part, octet-part}
+use Rattle.octets.proofs.Placed.{placed-nil, up-turn, up-rest}
+use Rattle.octets.proofs.move_down.Statement.{statement}
+use Rattle.octets.proofs.move_down.Tie as tie
+
+abbrev Inv-loop : tie.InvT-loop
+Inv-loop d₀ from to n i₀ d i = (i ≤ n) × (length d ≡ length d₀) × (d ≡ placed d₀ to (take i (take n (drop from d₀))))
+
+abbrev μ-loop : tie.MeasureT-loop
+μ-loop d₀ from to n i₀ d i = n - i
+
+loop-holds : tie.Need-loop-holds Inv-loop μ-loop
+loop-holds c = (omega arith, refl, sym (placed-nil _ _))
+
+add-d : tie.Need-add-d Inv-loop μ-loop
+add-d c = search needs
+
+slice-read-d : tie.Need-slice-read-d Inv-loop μ-loop
+slice-read-d c = search needs
+
+add-d-2 : tie.Need-add-d-2 Inv-loop μ-loop
+add-d-2 c = search needs
+
+slice-write-d : tie.Need-slice-write-d Inv-loop μ-loop
+slice-write-d c = search needs
+
+add-i : tie.Need-add-i Inv-loop μ-loop
+add-i c = search needs
+
+loop-less : tie.Need-loop-less Inv-loop μ-loop
+loop-less c = search needs
+
+loop-again : tie.Need-loop-again Inv-loop μ-loop
+loop-again c =
+    let a = c .before .before .before .args in
+    let l = c .before .before .loop in
+    let o = a .d .now in
+    let t = take (a .n) (drop (a .from) o) in
+    let m = length-part o (a .from) (a .n) (omega arith) in
+    let x =
+    up-rest o (a .to) t (l .i) (a .from + l .i) (omega arith) (omega arith) (omega arith)
+    ∙ sym (octet-part o (a .from) (a .n) (l .i) (omega arith))
+    in
+    (omega arith, simp length-set (l .inv .1), rw (l .inv .2, x) (up-turn o (a .to) t (l .i) (omega arith) (omega arith)))
+
+same-length : tie.Need-same-length Inv-loop μ-loop
+same-length c = search needs
+
+returns : tie.Need-returns Inv-loop μ-loop
+returns c =
+    let a = c .before .before .args in
+    let l = c .before .loop in
+    let m = length-part (a .d .now) (a .from) (a .n) (omega arith) in
+    l .inv .2 ∙ ap (placed _ _) (take-all (l .i) _ (omega arith))
+
+pub move-down-spec : {M : Type 1} → statement M
+move-down-spec =
+    tie.close
+    (tie.spec
+    Inv-loop
+    μ-loop
+    loop-holds
+    add-d
+    slice-read-d
+    add-d-2
+    slice-write-d
+    add-i
+    loop-less
+    loop-again
+    same-length
+    returns)

@@ -1,0 +1,225 @@
+// Octet strings, and the one status type of the project.
+ghost use mathlib.Core.Path.{_≡_};
+ghost use Prim.Native.Nat.{_+_, _<_, _≤_, _^_, min};
+ghost use lib.ListN.{length, take, drop};
+ghost use Rattle.octets.specs.Octets.{same, ordered, part as partOf, placed};
+ghost use Rattle.octets.specs.Number.{number, bigEndian, digits};
+
+// A number of 01, "Answers": a TAMP status (RFC 5934, section 5) or a house refusal.
+pub struct Status {
+    pub number: u32,
+}
+
+impl Status {
+    // RFC 5934, StatusCode: those that 01 gives.
+    pub const SUCCESS: Status = Status { number: 0 };
+
+    pub const DECODE_FAILURE: Status = Status { number: 1 };
+
+    pub const BAD_CONTENT_INFO: Status = Status { number: 2 };
+
+    pub const BAD_SIGNED_DATA: Status = Status { number: 3 };
+
+    pub const BAD_ENCAP_CONTENT: Status = Status { number: 4 };
+
+    pub const BAD_CERTIFICATE: Status = Status { number: 5 };
+
+    pub const BAD_SIGNER_INFO: Status = Status { number: 6 };
+
+    pub const BAD_SIGNED_ATTRS: Status = Status { number: 7 };
+
+    pub const BAD_UNSIGNED_ATTRS: Status = Status { number: 8 };
+
+    pub const MISSING_CONTENT: Status = Status { number: 9 };
+
+    pub const NO_TRUST_ANCHOR: Status = Status { number: 10 };
+
+    pub const NOT_AUTHORIZED: Status = Status { number: 11 };
+
+    pub const SIGNATURE_FAILURE: Status = Status { number: 16 };
+
+    pub const INSUFFICIENT_MEMORY: Status = Status { number: 17 };
+
+    pub const UNSUPPORTED_TAMP_MSG_TYPE: Status = Status { number: 18 };
+
+    pub const APEX_TAMP_ANCHOR: Status = Status { number: 19 };
+
+    pub const IMPROPER_TA_ADDITION: Status = Status { number: 20 };
+
+    pub const SEQ_NUM_FAILURE: Status = Status { number: 21 };
+
+    pub const INCORRECT_TARGET: Status = Status { number: 23 };
+
+    pub const COMMUNITY_UPDATE_FAILED: Status = Status { number: 24 };
+
+    pub const TRUST_ANCHOR_NOT_FOUND: Status = Status { number: 25 };
+
+    pub const MISSING_SIGNATURE: Status = Status { number: 29 };
+
+    pub const VERSION_NUMBER_MISMATCH: Status = Status { number: 31 };
+
+    pub const UNSUPPORTED_TRUST_ANCHOR_FORMAT: Status = Status { number: 34 };
+
+    pub const IMPROPER_TA_CHANGE: Status = Status { number: 35 };
+
+    pub const MALFORMED: Status = Status { number: 36 };
+
+    pub const UNSUPPORTED_TARGET_IDENTIFIER: Status = Status { number: 38 };
+
+    pub const OTHER: Status = Status { number: 127 };
+
+    // 01, Answers: the house refusals.
+    pub const BAD_IMAGE: Status = Status { number: 201 };
+
+    pub const BAD_VERDICT: Status = Status { number: 202 };
+
+    pub const SMALL_BUFFER: Status = Status { number: 203 };
+
+    pub const LONG_MESSAGE: Status = Status { number: 204 };
+
+    pub const LONG_REPLY: Status = Status { number: 205 };
+}
+
+// Two octet strings are equal.
+pub fn equal(a: &[u8], b: &[u8]) -> bool
+    ensures { λ r. ⌜ r ≡ same (now (a .entry)) (now (b .entry)) ⌝ }
+{
+    if a.len() != b.len() {
+        return false;
+    }
+    let mut i = 0;
+    while i < a.len() {
+        if a[i] != b[i] {
+            return false;
+        }
+        i += 1;
+    }
+    true
+}
+
+// The order of a SET OF (X.690, 11.6): a does not stand behind b.
+pub fn in_order(a: &[u8], b: &[u8]) -> bool
+    ensures { λ r. ⌜ r ≡ ordered (now (a .entry)) (now (b .entry)) ⌝ }
+{
+    let mut i = 0;
+    while i < a.len() {
+        if b.len() <= i {
+            return false;
+        }
+        if a[i] < b[i] {
+            return true;
+        }
+        if b[i] < a[i] {
+            return false;
+        }
+        i += 1;
+    }
+    true
+}
+
+// The octets from place a up to place e, as a part of the caller's slice; none where there are none.
+pub fn part(s: &[u8], a: usize, e: usize) -> &[u8]
+    ensures { λ r. ⌜ now r ≡ partOf (now (s .entry)) a e ⌝ }
+{
+    let n = s.len();
+    if n <= a {
+        return &s[n..n];
+    }
+    if e <= a {
+        return &s[n..n];
+    }
+    if n <= e {
+        return &s[a..n];
+    }
+    &s[a..e]
+}
+
+// Writes src into dst from place at on.
+pub fn copy_to(dst: &mut [u8], at: usize, src: &[u8])
+    requires { ⌜ at + length (now src) ≤ length (now dst) ⌝ }
+    ensures { λ r. ⌜ now (dst .exit) ≡ placed (now (dst .entry)) at (now (src .entry)) ⌝ }
+{
+    let mut i = 0;
+    while i < src.len() {
+        dst[at + i] = src[i];
+        i += 1;
+    }
+}
+
+// Moves n octets of d up, from one place to a later one, the last first.
+pub fn move_up(d: &mut [u8], from: usize, to: usize, n: usize)
+    requires { ⌜ (from ≤ to) × (to + n ≤ length (now d)) ⌝ }
+    ensures { λ r. ⌜ now (d .exit) ≡ placed (now (d .entry)) to (take n (drop from (now (d .entry)))) ⌝ }
+{
+    let mut j = n;
+    while 0 < j {
+        j -= 1;
+        d[to + j] = d[from + j];
+    }
+}
+
+// Moves n octets of d down, from one place to an earlier one, the first first.
+pub fn move_down(d: &mut [u8], from: usize, to: usize, n: usize)
+    requires { ⌜ (to ≤ from) × (from + n ≤ length (now d)) ⌝ }
+    ensures { λ r. ⌜ now (d .exit) ≡ placed (now (d .entry)) to (take n (drop from (now (d .entry)))) ⌝ }
+{
+    let mut i = 0;
+    while i < n {
+        d[to + i] = d[from + i];
+        i += 1;
+    }
+}
+
+fn wide(x: u8) -> u64
+    ensures { λ r. ⌜ r ≡ x ⌝ }
+{
+    x as u64
+}
+
+// The number that the octets from place at on write: `width` of them, as many as there are, and 8 at most.
+pub fn get_be(s: &[u8], at: usize, width: usize) -> u64
+    ensures { λ r. ⌜ (r ≡ number (take (min width 8) (drop at (now (s .entry))))) × (r < 256 ^ width) ⌝ }
+{
+    let mut n: u64 = 0;
+    let mut i = 0;
+    let mut p = at;
+    while i < 8 {
+        if i == width {
+            return n;
+        }
+        if s.len() <= p {
+            return n;
+        }
+        n = n * 256 + wide(s[p]);
+        p += 1;
+        i += 1;
+    }
+    n
+}
+
+// Writes the last `width` digits of n to the base 256 into dst from place at on.
+pub fn put_be(dst: &mut [u8], at: usize, width: usize, n: u64)
+    requires { ⌜ at + width ≤ length (now dst) ⌝ }
+    ensures { λ r. ⌜ now (dst .exit) ≡ placed (now (dst .entry)) at (bigEndian width n) ⌝ }
+{
+    let mut rest = n;
+    let mut j = width;
+    while 0 < j {
+        j -= 1;
+        dst[at + j] = (rest % 256) as u8;
+        rest /= 256;
+    }
+}
+
+// How many octets n takes with no zero in front; none for 0.
+pub fn digit_count(n: u64) -> usize
+    ensures { λ r. ⌜ r ≡ length (digits 256 8 n) ⌝ }
+{
+    let mut rest = n;
+    let mut k = 0;
+    while 0 < rest {
+        rest /= 256;
+        k += 1;
+    }
+    k
+}

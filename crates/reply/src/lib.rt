@@ -1,0 +1,7 @@
+// types
+
+// The writer.
+pub struct Writer<'a> {
+    pub buf: &'a mut [u8],
+    pub at: usize,
+}

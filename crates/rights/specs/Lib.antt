@@ -1,0 +1,5 @@
+pub mod Rights
+pub mod Decision
+pub mod Examples
+pub mod Constraints
+pub mod Attributes

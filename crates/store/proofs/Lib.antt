@@ -1,0 +1,6 @@
+pub mod Readers
+pub mod Storable
+pub mod Formats
+pub mod RoundTrip
+pub mod Sizes
+pub mod Places

@@ -1,0 +1,6 @@
+pub mod Store
+pub mod Image
+pub mod Signer
+pub mod Listing
+pub mod Records
+pub mod Parts

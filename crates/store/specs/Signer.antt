@@ -1,0 +1,21 @@
+-- 01, Answers: "The signer is the first anchor with the identifier and verdict 1."
+use Prim.Native.Nat.{ℕ, zero, suc}
+use mathlib.Core.Bool.{Bool, true, false, _&&_}
+use mathlib.Core.List.{List, [], _∷_}
+use lib.Dec.{eqb}
+use Rattle.octets.specs.Octets.{same, member, octet}
+use Rattle.store.specs.declared.Found.{Found}
+use Rattle.store.specs.declared.Found.the-variants.{At, Unverified, Unknown}
+
+-- the signer's position, where an identifier and a verdict are given for each anchor; without one, whether any anchor has the identifier.
+-- It reads identifiers and verdict alone.
+unfoldable pub signerFrom : ℕ → List (List ℕ) → List ℕ → List ℕ → Found → Found
+signerFrom i [] verdict wanted missed = missed
+signerFrom i (k ∷ ids) verdict wanted missed =
+    elim (same k wanted) [
+      | false ↦ signerFrom (suc i) ids verdict wanted missed
+      | true ↦ elim (eqb (octet verdict i) 1) [ true ↦ At i | false ↦ signerFrom (suc i) ids verdict wanted Unverified ]
+    ]
+
+unfoldable pub signer : List (List ℕ) → List ℕ → List ℕ → Found
+signer ids verdict wanted = signerFrom 0 ids verdict wanted Unknown

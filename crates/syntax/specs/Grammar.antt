@@ -1,0 +1,100 @@
+-- Syntax as data: what may stand in a window of octets, and the one definition of matching.
+use Prim.Native.Nat.{ℕ}
+use mathlib.Core.Bool.{Bool, true, false, not, _&&_}
+use mathlib.Core.List.{List, [], _∷_}
+use lib.ListN.{length}
+use lib.Dec.{ltb, leb, eqb}
+use Rattle.octets.specs.Octets.{octet, part, same}
+use Rattle.der.specs.declared.Element.{Element}
+use Rattle.der.specs.declared.Fit.{Fit}
+use Rattle.der.specs.declared.Fit.the-variants.{Fits, Breaks}
+use Rattle.der.specs.Element.{elementAt, elements}
+use Rattle.der.specs.Fit.{andThen, held, each}
+use Rattle.der.specs.Contents.{integerOk}
+
+-- what a type asks of its contents as a whole. The rules of the universal tags are those of status 1 and are not asked again: these are
+-- sizes, values, and the rules of types that a context tag hides (01, DER: "types hidden by context tags, belong to the status of their reader")
+pub data Rule : Type 0 where
+  -- SIZE (1..MAX)
+  notEmpty : Rule
+  -- SIZE (1..n)
+  sizeTo : (n : ℕ) → Rule
+  -- NULL
+  empty : Rule
+  -- these octets and no others
+  equals : (o : List ℕ) → Rule
+  -- an INTEGER hidden by a context tag, other than the default n ("default values omitted")
+  integerBut : (n : ℕ) → Rule
+  -- an INTEGER from 0 to 9223372036854775807
+  seqNumber : Rule
+
+unfoldable pub obeyed : Rule → List ℕ → Bool
+obeyed notEmpty o = leb 1 (length o)
+obeyed (sizeTo n) o = leb 1 (length o) && leb (length o) n
+obeyed empty o = same o []
+obeyed (equals c) o = same o c
+obeyed (integerBut n) o = integerOk o && not (same o (n ∷ []))
+obeyed seqNumber o = leb (length o) 8 && ltb (octet o 0) 128
+
+-- what may stand in a window
+pub data Syntax : Type 0 where
+  -- whatever stands there
+  free : Syntax
+  -- no element more
+  end : Syntax
+  -- as g says, and as a whole by a rule
+  obeys : (r : Rule) (g : Syntax) → Syntax
+  -- an element with this tag and contents as g says, if one stands there; then next. (In a window of one element a chain of these is a CHOICE.)
+  optional : (tag : ℕ) (g next : Syntax) → Syntax
+  -- one element, which by itself is a window for g; then next
+  one : (g next : Syntax) → Syntax
+  -- an element with any tag, if one stands there; then next (ANY OPTIONAL)
+  anyOptional : (next : Syntax) → Syntax
+  -- elements up to the end, each by itself a window for g (SEQUENCE OF, SET OF)
+  many : (g : Syntax) → Syntax
+
+-- Whether the window [at, stop), the contents of the element at `outer`, is as the syntax says. 02, E3: an element that may not stand at its place is charged itself, a missing part
+-- to the element that lacks it.
+unfoldable pub fit : Syntax → List ℕ → ℕ → ℕ → ℕ → Fit
+fit free s at stop outer = Fits
+fit end s at stop outer = held at (leb stop at)
+fit (obeys r g) s at stop outer = andThen (fit g s at stop outer) (held outer (obeyed r (part s at stop)))
+fit (optional t g next) s at stop outer =
+    let e = elementAt s at stop in
+    elim (ltb at stop) [
+      | false ↦ fit next s at stop outer
+      | true ↦
+          elim (e .good) [
+            | false ↦ Breaks at
+            | true ↦
+                elim (eqb (e .tag) t) [
+                  | false ↦ fit next s at stop outer
+                  | true ↦ andThen (fit g s (e .start) (e .stop) at) (fit next s (e .stop) stop outer)
+                ]
+          ]
+    ]
+fit (one g next) s at stop outer =
+    let e = elementAt s at stop in
+    elim (ltb at stop) [
+      | false ↦ Breaks outer
+      | true ↦
+          elim (e .good) [
+            | false ↦ Breaks at
+            | true ↦ andThen (fit g s at (e .stop) outer) (fit next s (e .stop) stop outer)
+          ]
+    ]
+fit (anyOptional next) s at stop outer =
+    let e = elementAt s at stop in
+    elim (ltb at stop) [
+      | false ↦ fit next s at stop outer
+      | true ↦ elim (e .good) [ false ↦ Breaks at | true ↦ fit next s (e .stop) stop outer ]
+    ]
+fit (many g) s at stop outer = each (λ former e. fit g s (e .at) (e .stop) outer) (elements s at stop)
+
+-- a field that must be there
+abbrev pub required : ℕ → Syntax → Syntax → Syntax
+required t g next = one (optional t g end) next
+
+-- in a window of one element: this tag, with contents as g says
+abbrev pub tagged : ℕ → Syntax → Syntax
+tagged t g = optional t g end

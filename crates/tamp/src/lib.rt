@@ -1,0 +1,1 @@
+// The call: from message, image and verdict to reply and next store.
