@@ -1,8 +1,9 @@
 #!/usr/bin/env python3
-"""table.py: makes the matcher's table from the grammar. Run it at the top of the repository after a change of crates/syntax/specs/Asn.antt or Forms.antt.
+"""table.py: makes the matcher's table from the grammar. Run it at the top of the repository after a change of specs/Asn.antt, Types.antt (syntaxOf) or Forms.antt
+of crates/syntax.
 
-It reads those two files and writes crates/syntax/src/table.rt (the constant array), specs/Table.antt (the same rows as data) and proofs/Ties.antt (a theorem for
-each named type: its row stands for it). A row is four octets: kind, tag or argument, body's row, next row; it names only rows above it, and equal rows are one.
+It reads those files and writes src/table.rt (the constant array), specs/Table.antt (the same rows as data) and proofs/Ties.antt (a theorem for each named type and each
+form: its row stands for it). A row is four octets: kind, tag or argument, body's row, next row; it names only rows above it, and equal rows are one.
 What a kind stands for is said by specs/Rows.antt.
 """
 import re
@@ -15,7 +16,7 @@ RULES = ['notEmpty', 'sizeTo', 'empty', 'equals', 'equals given', 'integerBut', 
 # -- reading
 
 def definitions(path):
-    """name -> (whether public, parameters, body) for each definition by one clause; (name, patterns) -> body for each clause of the others"""
+    """name -> (whether public, parameters, body), for a definition by one clause; and name -> (patterns, body) of each clause"""
     text = re.sub(r'--.*', '', open(path).read())
     single, clauses = {}, {}
     for block in re.split(r'\n(?=\S)', text):
@@ -73,8 +74,8 @@ class Node:
 
 
 class Grammar:
-    def __init__(self, single, names):
-        self.single, self.names = single, names
+    def __init__(self, single):
+        self.single = single
 
     def number(self, term, env):
         while term in env:
@@ -169,26 +170,26 @@ def shown(row):
 
 def main():
     single, _ = definitions(CRATE + 'specs/Asn.antt')
-    types, messages = definitions(CRATE + 'specs/Types.antt')
+    _, messages = definitions(CRATE + 'specs/Types.antt')
     _, forms = definitions(CRATE + 'specs/Forms.antt')
     names = fields(CRATE + 'specs/Asn.antt')
-    grammar, table, ties = Grammar(single, names), Table(names), []
+    grammar, table, ties = Grammar(single), Table(names), []
 
-    def row(term):
-        return table.add(grammar.tree(term, {}), '', [], 0)
+    def row(term, label=''):
+        return table.add(grammar.tree(term, {}), label, [], 0)
 
     for name, (public, parameters, body) in single.items():
         if public and not parameters and name[0].isupper():
             ties.append((name, row(name)))
     message_rows = [(p, row(body)) for p, body in messages['syntaxOf']]
-    form_rows = [(p, row(body)) for p, body in forms['formSyntax'] if p != '(form.Message kind)']
-    attribute_rows = [(p.split()[0], row(body)) for p, body in forms['attributeSyntax']]
+    form_rows = [(p, row(body, '' if isinstance(body, str) else p.split('.')[1])) for p, body in forms['formSyntax'] if p != '(form.Message kind)']
+    attribute_rows = [(p.split()[0], row(body, p.split()[0].split('.')[1] + ' attribute')) for p, body in forms['attributeSyntax']]
 
     count = len(table.rows)
     note = 'Made by tools/table.py from specs/Asn.antt and specs/Forms.antt: change those, not this file.'
 
     def constant(name):
-        return re.sub(r'(?<=[a-z])(?=[A-Z])', '_', name.split('.')[-1]).upper()
+        return re.sub(r'(?<=[a-z])(?=[A-Z])|(?<=[A-Z])(?=[A-Z][a-z])', '_', name.split('.')[-1]).upper()
 
     rt = [f'// {note}', "// A row is four octets: kind, tag or argument, body's row, next row. specs/Rows.antt says what a row stands for.",
           f'pub const ROWS: [u8; {4 * count}] = [']
@@ -196,9 +197,9 @@ def main():
         rt.append(f'    // {table.comment(n)}')
         rt += [f'    {x},' for x in shown(row)]
     rt += ['];', '', '// The row of each form.']
-    rt += [f'pub const {constant(p)}: usize = {n};' for p, n in form_rows + message_rows]
-    rt += ['', '// The row of an Attribute, by its type.']
-    rt += [f'pub const {constant(p)}_ATTRIBUTE: usize = {n};' for p, n in attribute_rows]
+    for name, n in [(constant(p), n) for p, n in form_rows + message_rows] + [(constant(p) + '_ATTRIBUTE', n) for p, n in attribute_rows]:
+        rt += [f'pub const {name}: usize = {n};', '']
+    rt.pop()
     write('src/table.rt', rt)
 
     variants = '{' + ', '.join(p for p, _ in message_rows) + '}'
@@ -223,7 +224,7 @@ def main():
 
     names = [n for n, _ in ties]
     proof = [f'-- {note}', '-- Each named type, and each form, is what its row stands for. A stale table fails here.',
-             'use Prim.Native.Nat.{ℕ, _<_}', 'use native.Mathlib.Omega.{arith}', 'use mathlib.Core.List.{List, [], _∷_}', 'use mathlib.Core.Path.{_≡_, refl}'] + declared
+             'use Prim.Native.Nat.{ℕ, _<_}', 'use native.Mathlib.Omega.{arith}', 'use mathlib.Core.List.{List}', 'use mathlib.Core.Path.{_≡_, refl}'] + declared
     proof += ['use Rattle.syntax.specs.Asn.{id-signedData, ' + ', '.join(part) + '}' if not i else 'use Rattle.syntax.specs.Asn.{' + ', '.join(part) + '}'
               for i, part in enumerate(names[i:i + 6] for i in range(0, len(names), 6))]
     proof += ['use Rattle.syntax.specs.Types.{syntaxOf}', 'use Rattle.syntax.specs.Forms.{formSyntax, attributeSyntax}',

@@ -1,7 +1,7 @@
 -- What content constraints break of 34 and 17, found in one pass over them: an equal account of those tests of Judge that read the rights.
 use Prim.Native.Nat.{ℕ}
 use mathlib.Core.Bool.{Bool, true, false, not, _&&_, _||_}
-use mathlib.Core.List.{List, [], _∷_, map}
+use mathlib.Core.List.{List, [], _∷_}
 use lib.ListN.{length}
 use lib.Dec.{ltb, eqb}
 use Rattle.octets.specs.Limits.{maxEntries, maxAttributes, maxValues, maxValueOctets}
@@ -13,12 +13,24 @@ use Rattle.rights.specs.Rights.{Key, Entry, Rights, anyContentType}
 use Rattle.anchor.specs.declared.Faults.{Faults}
 use Rattle.anchor.specs.declared.Compared.{Compared}
 use Rattle.anchor.specs.declared.Compared.the-variants.{Types, Octets}
+use Rattle.anchor.specs.Info.{critical, isConstraints}
 use Rattle.anchor.specs.Judge.{typesIn}
 
 -- what members of a run are compared by: their type (an OID's contents), or all their octets
 unfoldable pub keyOf : Compared → List ℕ → Element → List ℕ
 keyOf Types s e = contents s (field 0x06 s e)
 keyOf Octets s e = whole s e
+
+-- the tests that are made of each member of a run: it has the key k; 17, a value over the limit; 34, "a critical one but content constraints"
+
+abbrev pub hasKey : List ℕ → Compared → List ℕ → Element → Bool
+hasKey k by s e = same k (keyOf by s e)
+
+abbrev pub isLong : List ℕ → Element → Bool
+isLong s e = ltb maxValueOctets (length (whole s e))
+
+abbrev pub isOtherCritical : List ℕ → Element → Bool
+isOtherCritical t e = critical t e && not (isConstraints t e)
 
 -- where a run goes on behind e: nothing is read behind a header that breaks a rule
 unfoldable pub nextAt : Element → ℕ → ℕ
@@ -30,13 +42,14 @@ noFaults = record { repeated = false; unlike = false; entries = false; attribute
 -- the faults of two parts together
 unfoldable pub together : Faults → Faults → Faults
 together a b =
-    record
-    { repeated = a .repeated || b .repeated
-    ; unlike = a .unlike || b .unlike
-    ; entries = a .entries || b .entries
-    ; attributes = a .attributes || b .attributes
-    ; values = a .values || b .values
-    ; octets = a .octets || b .octets }
+    record {
+      repeated = a .repeated || b .repeated;
+      unlike = a .unlike || b .unlike;
+      entries = a .entries || b .entries;
+      attributes = a .attributes || b .attributes;
+      values = a .values || b .values;
+      octets = a .octets || b .octets;
+    }
 
 module _ {A : Type 0} where
   unfoldable pub faultsIn : (A → Faults) → List A → Faults
@@ -45,13 +58,14 @@ module _ {A : Type 0} where
 
 unfoldable pub attributeFaults : Key × List Key → Faults
 attributeFaults a =
-    record
-    { repeated = not (distinct (a .1))
-    ; unlike = false
-    ; entries = false
-    ; attributes = false
-    ; values = ltb maxValues (length (a .1))
-    ; octets = anyOf (λ v. ltb maxValueOctets (length v)) (a .1) }
+    record {
+      repeated = not (distinct (a .1));
+      unlike = false;
+      entries = false;
+      attributes = false;
+      values = ltb maxValues (length (a .1));
+      octets = anyOf (λ v. ltb maxValueOctets (length v)) (a .1);
+    }
 
 -- 34, "an anyContentType entry unlike Rights"
 unfoldable pub isUnlike : Key × Entry → Bool
@@ -60,13 +74,14 @@ isUnlike e = same (e .0) anyContentType && not (e .1 .canSource && eqb (length (
 unfoldable pub entryFaults : Key × Entry → Faults
 entryFaults e =
     together
-    (record
-    { repeated = not (distinct (typesIn (e .1 .constraints)))
-    ; unlike = isUnlike e
-    ; entries = false
-    ; attributes = ltb maxAttributes (length (e .1 .constraints))
-    ; values = false
-    ; octets = false })
+    (record {
+      repeated = not (distinct (typesIn (e .1 .constraints)));
+      unlike = isUnlike e;
+      entries = false;
+      attributes = ltb maxAttributes (length (e .1 .constraints));
+      values = false;
+      octets = false;
+    })
     (faultsIn attributeFaults (e .1 .constraints))
 
 unfoldable pub rightsFaults : Rights → Faults

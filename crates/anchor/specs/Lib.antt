@@ -1,3 +1,4 @@
 pub mod Info
 pub mod Judge
+pub mod Role
 pub mod Faults

@@ -1,6 +1,53 @@
-// types
 // Trust anchors: a TrustAnchorInfo (RFC 5914), and what an add must pass (01, After acceptance).
 // Everything takes the octets of a TrustAnchorInfo by itself, a part of an image or of a message.
+use der::Element;
+use der::Fit;
+ghost use mathlib.Core.Path.{_≡_};
+ghost use mathlib.Core.List.{map};
+ghost use lib.ListN.{length};
+ghost use lib.Dec.{ltb};
+ghost use Rattle.octets.specs.Lists.{anyOf};
+ghost use Rattle.octets.specs.Octets.{distinct};
+ghost use Rattle.der.specs.Element.{root as rootOf, inside, elements};
+ghost use Rattle.syntax.specs.Forms.{formSyntax};
+ghost use Rattle.rights.specs.Constraints.{attrConstraint, contentTypeConstraint, constraintsRights};
+ghost use Rattle.anchor.specs.Info.{
+  version as versionOf,
+  publicKey,
+  keyIdField,
+  keyIdentifier,
+  title as titleOf,
+  certPath,
+  isConstraints,
+  constraintsExtension,
+  hasConstraints,
+  constraintsValue,
+};
+ghost use Rattle.anchor.specs.Role.{extensionList, roleOf};
+ghost use Rattle.anchor.specs.Judge.{
+  statusOf,
+  conforms as conformsOf,
+  repeatedExtension,
+  criticalExtension,
+  badConstraints,
+  identifierOutside,
+  judge as judgeOf,
+  storable,
+};
+ghost use Rattle.anchor.specs.Faults.{
+  keyOf,
+  hasKey,
+  isLong,
+  isOtherCritical,
+  nextAt,
+  noFaults,
+  together as togetherOf,
+  faultsIn,
+  attributeFaults,
+  isUnlike,
+  entryFaults,
+  rightsFaults,
+};
 
 // What the checks of an add up to status 17 for size find, the first in the order of 01.
 pub enum Judged {
@@ -23,18 +70,521 @@ pub enum Judged {
     ValueOctets,
 }
 
+// 01, The store image, listing.
+pub enum AnchorRole {
+    Apex,
+    Management,
+    Identity,
+}
+
 // What members of a run are compared by: their type, or all their octets.
-pub enum Compared {
+enum Compared {
     Types,
     Octets,
 }
 
 // What content constraints break: a repeated type or value, an anyContentType entry unlike Rights, and the limits of Rights.
-pub struct Faults {
-    pub repeated: bool,
-    pub unlike: bool,
-    pub entries: bool,
-    pub attributes: bool,
-    pub values: bool,
-    pub octets: bool,
+struct Faults {
+    repeated: bool,
+    unlike: bool,
+    entries: bool,
+    attributes: bool,
+    values: bool,
+    octets: bool,
+}
+
+// 01's limits.
+pub const MAX_ANCHOR_OCTETS: usize = 1024;
+
+pub const MAX_KEY_IDENTIFIER: usize = 32;
+
+pub const MAX_DEPTH: usize = 16;
+
+pub const MAX_ENTRIES: usize = 16;
+
+pub const MAX_ATTRIBUTES: usize = 4;
+
+pub const MAX_VALUES: usize = 4;
+
+pub const MAX_VALUE_OCTETS: usize = 64;
+
+// RFC 6010, 2, and 01, Rights: the contents of their OIDs.
+const ID_PE_CMS_CONTENT_CONSTRAINTS: [u8; 8] = [0x2B, 0x06, 0x01, 0x05, 0x05, 0x07, 0x01, 0x12];
+
+const ANY_CONTENT_TYPE: [u8; 11] = [
+    0x2A,
+    0x86,
+    0x48,
+    0x86,
+    0xF7,
+    0x0D,
+    0x01,
+    0x09,
+    0x10,
+    0x01,
+    0x00,
+];
+
+// The element that octets by themselves are.
+fn root(t: &[u8]) -> Element
+    ensures { λ r. ⌜ r ≡ rootOf (now (t .entry)) ⌝ }
+{
+    der::element_at(t, 0, t.len())
+}
+
+// Absent where it is the default.
+pub fn version(t: &[u8]) -> Element
+    ensures { λ r. ⌜ r ≡ versionOf (now (t .entry)) ⌝ }
+{
+    der::field(t, root(t), 0x02)
+}
+
+// The SubjectPublicKeyInfo's octets.
+pub fn public_key(t: &[u8]) -> &[u8]
+    ensures { λ r. ⌜ now r ≡ publicKey (now (t .entry)) ⌝ }
+{
+    der::whole(t, der::field(t, root(t), 0x30))
+}
+
+fn key_id_field(t: &[u8]) -> Element
+    ensures { λ r. ⌜ r ≡ keyIdField (now (t .entry)) ⌝ }
+{
+    der::field(t, root(t), 0x04)
+}
+
+pub fn key_identifier(t: &[u8]) -> &[u8]
+    ensures { λ r. ⌜ now r ≡ keyIdentifier (now (t .entry)) ⌝ }
+{
+    der::contents(t, key_id_field(t))
+}
+
+pub fn title(t: &[u8]) -> Element
+    ensures { λ r. ⌜ r ≡ titleOf (now (t .entry)) ⌝ }
+{
+    der::field(t, root(t), 0x0C)
+}
+
+pub fn cert_path(t: &[u8]) -> Element
+    ensures { λ r. ⌜ r ≡ certPath (now (t .entry)) ⌝ }
+{
+    der::field_behind(t, root(t), key_id_field(t), 0x30)
+}
+
+// Extensions, in its explicit tag.
+pub fn extension_list(t: &[u8]) -> Element
+    ensures { λ r. ⌜ r ≡ extensionList (now (t .entry)) ⌝ }
+{
+    der::field(t, der::field(t, root(t), 0xA1), 0x30)
+}
+
+// Where a run goes on behind e: nothing is read behind a header that breaks a rule.
+fn next(e: Element, stop: usize) -> usize
+    ensures { λ r. ⌜ r ≡ nextAt e stop ⌝ }
+{
+    if e.good {
+        return e.stop;
+    }
+    stop
+}
+
+// What a member of a run is compared by.
+fn key(s: &[u8], e: Element, by: Compared) -> &[u8]
+    ensures { λ r. ⌜ now r ≡ keyOf by (now (s .entry)) e ⌝ }
+{
+    match by {
+        Compared::Types => der::contents(s, der::field(s, e, 0x06)),
+        Compared::Octets => der::whole(s, e),
+    }
+}
+
+// Whether a member of the run from at up to stop has the key k.
+fn occurs(s: &[u8], at: usize, stop: usize, by: Compared, k: &[u8]) -> bool
+    ensures { λ r. ⌜ r ≡ anyOf (hasKey (now (k .entry)) by (now (s .entry))) (elements (now (s .entry)) at stop) ⌝ }
+{
+    let mut i = at;
+    while i < stop {
+        let e = der::element_at(s, i, stop);
+        if octets::equal(k, key(s, e, by)) {
+            return true;
+        }
+        i = next(e, stop);
+    }
+    false
+}
+
+// No two members of the element `outer` have equal keys.
+fn is_distinct(s: &[u8], outer: Element, by: Compared) -> bool
+    ensures { λ r. ⌜ r ≡ distinct (map (keyOf by (now (s .entry))) (inside (now (s .entry)) outer)) ⌝ }
+{
+    let stop = outer.stop;
+    let mut i = outer.start;
+    while i < stop {
+        let e = der::element_at(s, i, stop);
+        let behind = next(e, stop);
+        if occurs(s, behind, stop, by, key(s, e, by)) {
+            return false;
+        }
+        i = behind;
+    }
+    true
+}
+
+// More than n members stand in the element `outer`.
+fn more_than(s: &[u8], outer: Element, n: usize) -> bool
+    ensures { λ r. ⌜ r ≡ ltb n (length (inside (now (s .entry)) outer)) ⌝ }
+{
+    let stop = outer.stop;
+    let mut i = outer.start;
+    let mut left = n;
+    while i < stop {
+        if left == 0 {
+            return true;
+        }
+        left -= 1;
+        i = next(der::element_at(s, i, stop), stop);
+    }
+    false
+}
+
+// Some member of the element `outer` is over 01's limit for a value.
+fn has_long(s: &[u8], outer: Element) -> bool
+    ensures { λ r. ⌜ r ≡ anyOf (isLong (now (s .entry))) (inside (now (s .entry)) outer) ⌝ }
+{
+    let stop = outer.stop;
+    let mut i = outer.start;
+    while i < stop {
+        let e = der::element_at(s, i, stop);
+        if MAX_VALUE_OCTETS < der::whole(s, e).len() {
+            return true;
+        }
+        i = next(e, stop);
+    }
+    false
+}
+
+fn is_constraints(t: &[u8], e: Element) -> bool
+    ensures { λ r. ⌜ r ≡ isConstraints (now (t .entry)) e ⌝ }
+{
+    octets::equal(key(t, e, Compared::Types), &ID_PE_CMS_CONTENT_CONSTRAINTS)
+}
+
+// The content constraints extension.
+pub fn constraints_extension(t: &[u8]) -> Element
+    ensures { λ r. ⌜ r ≡ constraintsExtension (now (t .entry)) ⌝ }
+{
+    let list = extension_list(t);
+    let stop = list.stop;
+    let mut i = list.start;
+    while i < stop {
+        let e = der::element_at(t, i, stop);
+        if is_constraints(t, e) {
+            return e;
+        }
+        i = next(e, stop);
+    }
+    Element {
+        good: false,
+        tag: 0,
+        at: 0,
+        start: 0,
+        stop: 0,
+    }
+}
+
+pub fn has_constraints(t: &[u8]) -> bool
+    ensures { λ r. ⌜ r ≡ hasConstraints (now (t .entry)) ⌝ }
+{
+    let e = constraints_extension(t);
+    e.good
+}
+
+// The role of the anchor at a position of the store.
+pub fn role(position: usize, t: &[u8]) -> AnchorRole
+    ensures { λ r. ⌜ r ≡ roleOf position (now (t .entry)) ⌝ }
+{
+    if position == 0 {
+        return AnchorRole::Apex;
+    }
+    if has_constraints(t) {
+        return AnchorRole::Management;
+    }
+    AnchorRole::Identity
+}
+
+// CMSContentConstraints as octets by itself, none where there is no extension. It stands for the anchor's rights (proofs/Rights, value-rights).
+pub fn constraints_value(t: &[u8]) -> &[u8]
+    ensures { λ r. ⌜ now r ≡ constraintsValue (now (t .entry)) ⌝ }
+{
+    der::contents(t, der::field(t, constraints_extension(t), 0x04))
+}
+
+fn is_other_critical(t: &[u8], e: Element) -> bool
+    ensures { λ r. ⌜ r ≡ isOtherCritical (now (t .entry)) e ⌝ }
+{
+    let critical = der::field(t, e, 0x01);
+    if critical.good {
+        return !is_constraints(t, e);
+    }
+    false
+}
+
+// 34: a critical extension but content constraints.
+fn critical_extension(t: &[u8]) -> bool
+    ensures { λ r. ⌜ r ≡ criticalExtension (now (t .entry)) ⌝ }
+{
+    let list = extension_list(t);
+    let stop = list.stop;
+    let mut i = list.start;
+    while i < stop {
+        let e = der::element_at(t, i, stop);
+        if is_other_critical(t, e) {
+            return true;
+        }
+        i = next(e, stop);
+    }
+    false
+}
+
+// 34: a repeated extension.
+fn repeated_extension(t: &[u8]) -> bool
+    ensures { λ r. ⌜ r ≡ repeatedExtension (now (t .entry)) ⌝ }
+{
+    !is_distinct(t, extension_list(t), Compared::Types)
+}
+
+// The faults of two parts together.
+fn together(a: Faults, b: Faults) -> Faults
+    ensures { λ r. ⌜ r ≡ togetherOf a b ⌝ }
+{
+    Faults {
+        repeated: a.repeated | b.repeated,
+        unlike: a.unlike | b.unlike,
+        entries: a.entries | b.entries,
+        attributes: a.attributes | b.attributes,
+        values: a.values | b.values,
+        octets: a.octets | b.octets,
+    }
+}
+
+fn no_faults() -> Faults
+    ensures { λ r. ⌜ r ≡ noFaults ⌝ }
+{
+    Faults {
+        repeated: false,
+        unlike: false,
+        entries: false,
+        attributes: false,
+        values: false,
+        octets: false,
+    }
+}
+
+// The faults of an AttrConstraint.
+fn attribute_faults(v: &[u8], a: Element) -> Faults
+    ensures { λ r. ⌜ r ≡ attributeFaults (attrConstraint (now (v .entry)) a) ⌝ }
+{
+    let values = der::field(v, a, 0x31);
+    Faults {
+        repeated: !is_distinct(v, values, Compared::Octets),
+        unlike: false,
+        entries: false,
+        attributes: false,
+        values: more_than(v, values, MAX_VALUES),
+        octets: has_long(v, values),
+    }
+}
+
+// Those of the AttrConstraints in a list.
+fn attributes_faults(v: &[u8], list: Element) -> Faults
+    ensures { λ r. ⌜ r ≡ faultsIn attributeFaults (map (attrConstraint (now (v .entry))) (inside (now (v .entry)) list)) ⌝ }
+{
+    let stop = list.stop;
+    let mut i = list.start;
+    let mut found = no_faults();
+    while i < stop {
+        let a = der::element_at(v, i, stop);
+        found = together(found, attribute_faults(v, a));
+        i = next(a, stop);
+    }
+    found
+}
+
+// An anyContentType entry that is not canSource or has constraints.
+fn is_unlike(v: &[u8], e: Element) -> bool
+    ensures { λ r. ⌜ r ≡ isUnlike (contentTypeConstraint (now (v .entry)) e) ⌝ }
+{
+    if !octets::equal(key(v, e, Compared::Types), &ANY_CONTENT_TYPE) {
+        return false;
+    }
+    let generation = der::field(v, e, 0x0A);
+    if generation.good {
+        return true;
+    }
+    more_than(v, der::field(v, e, 0x30), 0)
+}
+
+// The faults of a ContentTypeConstraint.
+fn entry_faults(v: &[u8], e: Element) -> Faults
+    ensures { λ r. ⌜ r ≡ entryFaults (contentTypeConstraint (now (v .entry)) e) ⌝ }
+{
+    let list = der::field(v, e, 0x30);
+    let own = Faults {
+        repeated: !is_distinct(v, list, Compared::Types),
+        unlike: is_unlike(v, e),
+        entries: false,
+        attributes: more_than(v, list, MAX_ATTRIBUTES),
+        values: false,
+        octets: false,
+    };
+    together(own, attributes_faults(v, list))
+}
+
+// Those of the ContentTypeConstraints in a list.
+fn entries_faults(v: &[u8], list: Element) -> Faults
+    ensures { λ r. ⌜ r ≡ faultsIn entryFaults (map (contentTypeConstraint (now (v .entry))) (inside (now (v .entry)) list)) ⌝ }
+{
+    let stop = list.stop;
+    let mut i = list.start;
+    let mut found = no_faults();
+    while i < stop {
+        let e = der::element_at(v, i, stop);
+        found = together(found, entry_faults(v, e));
+        i = next(e, stop);
+    }
+    found
+}
+
+// The faults of a CMSContentConstraints value.
+fn rights_faults(v: &[u8]) -> Faults
+    ensures { λ r. ⌜ r ≡ rightsFaults (constraintsRights (now (v .entry))) ⌝ }
+{
+    let list = root(v);
+    let own = Faults {
+        repeated: !is_distinct(v, list, Compared::Types),
+        unlike: false,
+        entries: more_than(v, list, MAX_ENTRIES),
+        attributes: false,
+        values: false,
+        octets: false,
+    };
+    together(own, entries_faults(v, list))
+}
+
+// 17: an identifier outside 1 to 32 octets.
+fn identifier_outside(t: &[u8]) -> bool
+    ensures { λ r. ⌜ r ≡ identifierOutside (now (t .entry)) ⌝ }
+{
+    let n = key_identifier(t).len();
+    if n == 0 {
+        return true;
+    }
+    MAX_KEY_IDENTIFIER < n
+}
+
+// Octets by themselves are DER, depth counted from their element, and of a syntax.
+pub fn conforms(form: syntax::Form, t: &[u8]) -> bool
+    ensures { λ r. ⌜ r ≡ conformsOf (formSyntax form) (now (t .entry)) ⌝ }
+{
+    let n = t.len();
+    let Fit::Fits = der::spans(t, 0, n, 0, MAX_DEPTH) else {
+        return false;
+    };
+    let Fit::Fits = syntax::fits(form, t, 0, n, 0) else {
+        return false;
+    };
+    true
+}
+
+// 34: bad constraints syntax.
+fn bad_constraints(t: &[u8]) -> bool
+    ensures { λ r. ⌜ r ≡ badConstraints (now (t .entry)) ⌝ }
+{
+    if has_constraints(t) {
+        return !conforms(syntax::Form::CMSContentConstraints, constraints_value(t));
+    }
+    false
+}
+
+// The checks of an add up to status 17 for size, in the order of 01.
+pub fn judge(t: &[u8]) -> Judged
+    ensures { λ r. ⌜ r ≡ judgeOf (now (t .entry)) ⌝ }
+{
+    let version = version(t);
+    if version.good {
+        return Judged::OtherVersion;
+    }
+    let path = cert_path(t);
+    if path.good {
+        return Judged::CertPath;
+    }
+    if repeated_extension(t) {
+        return Judged::RepeatedExtension;
+    }
+    if critical_extension(t) {
+        return Judged::CriticalExtension;
+    }
+    if bad_constraints(t) {
+        return Judged::ConstraintsSyntax;
+    }
+    let faults = rights_faults(constraints_value(t));
+    if faults.repeated {
+        return Judged::RepeatedConstraint;
+    }
+    if faults.unlike {
+        return Judged::AnyContentTypeEntry;
+    }
+    if MAX_ANCHOR_OCTETS < t.len() {
+        return Judged::AnchorOctets;
+    }
+    if identifier_outside(t) {
+        return Judged::KeyIdentifierOctets;
+    }
+    if faults.entries {
+        return Judged::EntryCount;
+    }
+    if faults.attributes {
+        return Judged::AttributeCount;
+    }
+    if faults.values {
+        return Judged::ValueCount;
+    }
+    if faults.octets {
+        return Judged::ValueOctets;
+    }
+    Judged::Passes
+}
+
+// 01's numbers.
+pub fn status(j: Judged) -> octets::Status
+    ensures { λ r. ⌜ r ≡ statusOf j ⌝ }
+{
+    match j {
+        Judged::Passes => octets::Status::SUCCESS,
+        Judged::CertificateForm => octets::Status::UNSUPPORTED_TRUST_ANCHOR_FORMAT,
+        Judged::OtherVersion => octets::Status::UNSUPPORTED_TRUST_ANCHOR_FORMAT,
+        Judged::CertPath => octets::Status::UNSUPPORTED_TRUST_ANCHOR_FORMAT,
+        Judged::RepeatedExtension => octets::Status::UNSUPPORTED_TRUST_ANCHOR_FORMAT,
+        Judged::CriticalExtension => octets::Status::UNSUPPORTED_TRUST_ANCHOR_FORMAT,
+        Judged::ConstraintsSyntax => octets::Status::UNSUPPORTED_TRUST_ANCHOR_FORMAT,
+        Judged::RepeatedConstraint => octets::Status::UNSUPPORTED_TRUST_ANCHOR_FORMAT,
+        Judged::AnyContentTypeEntry => octets::Status::UNSUPPORTED_TRUST_ANCHOR_FORMAT,
+        Judged::AnchorOctets => octets::Status::INSUFFICIENT_MEMORY,
+        Judged::KeyIdentifierOctets => octets::Status::INSUFFICIENT_MEMORY,
+        Judged::EntryCount => octets::Status::INSUFFICIENT_MEMORY,
+        Judged::AttributeCount => octets::Status::INSUFFICIENT_MEMORY,
+        Judged::ValueCount => octets::Status::INSUFFICIENT_MEMORY,
+        Judged::ValueOctets => octets::Status::INSUFFICIENT_MEMORY,
+    }
+}
+
+// 01, The store image: a TrustAnchorInfo that may be stored.
+pub fn is_storable(t: &[u8]) -> bool
+    ensures { λ r. ⌜ r ≡ storable (now (t .entry)) ⌝ }
+{
+    if conforms(syntax::Form::StoredTrustAnchorInfo, t) {
+        let found = status(judge(t));
+        let success = octets::Status::SUCCESS;
+        return found.number == success.number;
+    }
+    false
 }

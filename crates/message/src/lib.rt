@@ -1,14 +1,28 @@
-// types
+// The four TAMP messages (RFC 5934): rows 36, 31 and 127 of 01's table, the target, and what a message asks.
+ghost use mathlib.Core.Path.{_≡_};
+ghost use Prim.Native.Nat.{_+_, _≤_, min};
+ghost use lib.Dec.{ltb};
+ghost use lib.ListN.{length, take};
+ghost use Rattle.octets.specs.Limits.{maxUpdates};
+ghost use Rattle.octets.specs.Lists.{anyOf};
+ghost use Rattle.octets.specs.Octets.{member};
+ghost use Rattle.octets.specs.Number.{number};
+ghost use Rattle.der.specs.Element.{whole as wholeOf, contents as contentsOf, inside};
+ghost use Rattle.message.specs.Fields.{targetIn, updatesIn, entryOf, entriesIn};
+ghost use Rattle.message.specs.Rows.{row-36, row-127, asksForm, unwrapped, received};
+ghost use Rattle.message.specs.Names.{namesIn};
+ghost use Rattle.message.specs.Target.{blockNames, entryNames, moduleNames, names, targetOf};
 use der::Element;
-
-
-
+use der::Fit;
+use envelope::Envelope;
 use envelope::Refusal;
-
-
-
-
+use envelope::Signed;
+use octets::Status;
+use syntax::Form;
 use syntax::TampType;
+
+// 01, After acceptance: "1 to 16 entries".
+const MAX_UPDATES: usize = 16;
 
 // What a message asks that passes the rows up to 127, as parts of it.
 pub struct Request {
@@ -44,4 +58,341 @@ pub enum Entry {
     AddCertificate,
     Remove(Element),
     Change,
+}
+
+// 36: eContent is not DER, depth counted afresh, or isn't its message's syntax.
+fn body_fit(kind: TampType, s: &[u8], e: Element) -> Fit
+    ensures { λ r. ⌜ r ≡ row-36 kind (now (s .entry)) e ⌝ }
+{
+    if let Fit::Breaks(o) = der::spans(s, e.start, e.stop, e.at, envelope::MAX_DEPTH) {
+        return Fit::Breaks(o);
+    }
+    syntax::fits(Form::Message(kind), s, e.start, e.stop, e.at)
+}
+
+fn asks_form(kind: TampType) -> bool
+    ensures { λ r. ⌜ r ≡ asksForm kind ⌝ }
+{
+    match kind {
+        TampType::StatusQuery => true,
+        TampType::Update => true,
+        TampType::CommunityUpdate => true,
+        TampType::SeqNumAdjust => false,
+    }
+}
+
+// 127: a verbose reply is wanted.
+fn wants_verbose(kind: TampType, s: &[u8], body: Element) -> bool
+    ensures { λ r. ⌜ r ≡ row-127 kind (now (s .entry)) body ⌝ }
+{
+    if !asks_form(kind) {
+        return false;
+    }
+    let terse = der::field(s, body, 0x81);
+    !terse.good
+}
+
+fn refuse(status: Status, offset: usize, msgtype: Element, msgref: Element) -> Received
+    ensures { λ r. ⌜ r ≡ Received.Refused (record { status = status; offset = offset; msgtype = msgtype; msgref = msgref }) ⌝ }
+{
+    Received::Refused(Refusal {
+        status: status,
+        offset: offset,
+        msgtype: msgtype,
+        msgref: msgref,
+    })
+}
+
+// What is in the wrapper, by the rows 36, 31 and 127.
+pub fn unwrap(s: &[u8], w: Signed) -> Received
+    ensures { λ r. ⌜ r ≡ unwrapped (now (s .entry)) w ⌝ }
+{
+    let none = envelope::no_element();
+    let kind = w.kind;
+    let about = w.msgtype;
+    let content = w.content;
+    if let Fit::Breaks(o) = body_fit(kind, s, content) {
+        return refuse(Status::MALFORMED, o, about, none);
+    }
+    let body = der::element_at(s, content.start, content.stop);
+    let version = der::field(s, body, 0x80);
+    if version.good {
+        return refuse(Status::VERSION_NUMBER_MISMATCH, 0, about, none);
+    }
+    let msgref = der::field(s, body, 0x30);
+    if wants_verbose(kind, s, body) {
+        return refuse(Status::OTHER, 0, about, msgref);
+    }
+    let signer = w.signer;
+    let attributes = w.attributes;
+    Received::Asks(Request {
+        kind: kind,
+        msgtype: about,
+        signer: signer,
+        attributes: attributes,
+        body: body,
+        msgref: msgref,
+    })
+}
+
+// The rows up to 127: what depends on the message alone.
+pub fn receive(s: &[u8]) -> Received
+    ensures { λ r. ⌜ r ≡ received (now (s .entry)) ⌝ }
+{
+    match envelope::open(s) {
+        Envelope::Opened(w) => unwrap(s, w),
+        Envelope::Refused(r) => Received::Refused(r),
+    }
+}
+
+// The signer's key identifier, the target and msgRef, as parts of the message.
+pub fn key_identifier(s: &[u8], q: Request) -> &[u8]
+    ensures { λ r. ⌜ now r ≡ contentsOf (now (s .entry)) (q .signer) ⌝ }
+{
+    der::contents(s, q.signer)
+}
+
+pub fn msg_ref(s: &[u8], q: Request) -> &[u8]
+    ensures { λ r. ⌜ now r ≡ wholeOf (now (s .entry)) (q .msgref) ⌝ }
+{
+    der::whole(s, q.msgref)
+}
+
+pub fn target_in(s: &[u8], msgref: Element) -> Element
+    ensures { λ r. ⌜ r ≡ targetIn (now (s .entry)) msgref ⌝ }
+{
+    der::element_at(s, msgref.start, msgref.stop)
+}
+
+pub fn target_octets(s: &[u8], q: Request) -> &[u8]
+    ensures { λ r. ⌜ now r ≡ wholeOf (now (s .entry)) (targetIn (now (s .entry)) (q .msgref)) ⌝ }
+{
+    der::whole(s, target_in(s, q.msgref))
+}
+
+// The number in the contents of an INTEGER, of 8 octets at most.
+pub fn number_in(s: &[u8], e: Element) -> u64
+    ensures { λ r. ⌜ r ≡ number (take 8 (contentsOf (now (s .entry)) e)) ⌝ }
+{
+    octets::get_be(der::contents(s, e), 0, 8)
+}
+
+// updates of an Update or a Community Update.
+pub fn updates_in(s: &[u8], body: Element, msgref: Element) -> Element
+    ensures { λ r. ⌜ r ≡ updatesIn (now (s .entry)) body msgref ⌝ }
+{
+    der::field_behind(s, body, msgref, 0x30)
+}
+
+// An entry of an Update.
+pub fn entry_of(s: &[u8], e: Element) -> Entry
+    ensures { λ r. ⌜ r ≡ entryOf (now (s .entry)) e ⌝ }
+{
+    if e.tag == 0xA1 {
+        let choice = der::element_at(s, e.start, e.stop);
+        if choice.tag == 0xA2 {
+            let info = der::field(s, choice, 0x30);
+            return Entry::Add(info);
+        }
+        return Entry::AddCertificate;
+    }
+    if e.tag == 0xA2 {
+        return Entry::Remove(e);
+    }
+    Entry::Change
+}
+
+// How many elements are inside e: the entries of an Update.
+pub fn count(s: &[u8], e: Element) -> usize
+    ensures { λ r. ⌜ r ≡ length (inside (now (s .entry)) e) ⌝ }
+{
+    let stop = e.stop;
+    let mut at = e.start;
+    let mut n = 0;
+    while at < stop {
+        let m = der::element_at(s, at, stop);
+        n += 1;
+        if !m.good {
+            return n;
+        }
+        at = m.stop;
+    }
+    n
+}
+
+// 01, After acceptance: an Update with over 16 entries.
+pub fn has_too_many(s: &[u8], body: Element, msgref: Element) -> bool
+    ensures { λ r. ⌜ r ≡ ltb maxUpdates (length (entriesIn (now (s .entry)) body msgref)) ⌝ }
+{
+    MAX_UPDATES < count(s, updates_in(s, body, msgref))
+}
+
+// "a block whose low and high have the serial's length and bound it as big-endian numbers, ends included"
+fn block_names(serial: &[u8], low: &[u8], high: &[u8]) -> bool
+    ensures { λ r. ⌜ r ≡ blockNames (now (serial .entry)) (now (low .entry)) (now (high .entry)) ⌝ }
+{
+    if low.len() != serial.len() {
+        return false;
+    }
+    if high.len() != serial.len() {
+        return false;
+    }
+    if !octets::in_order(low, serial) {
+        return false;
+    }
+    octets::in_order(serial, high)
+}
+
+// A HardwareSerialEntry: "serial all, a single equal serial, or a block".
+fn entry_names(serial: &[u8], s: &[u8], e: Element) -> bool
+    ensures { λ r. ⌜ r ≡ entryNames (now (serial .entry)) (now (s .entry)) e ⌝ }
+{
+    if e.tag == 0x05 {
+        return true;
+    }
+    if e.tag == 0x04 {
+        return octets::equal(der::contents(s, e), serial);
+    }
+    let low = der::field(s, e, 0x04);
+    let high = der::field_behind(s, e, low, 0x04);
+    block_names(serial, der::contents(s, low), der::contents(s, high))
+}
+
+// Whether one of the entries names the serial.
+fn any_entry(serial: &[u8], s: &[u8], entries: Element) -> bool
+    ensures { λ r. ⌜ r ≡ anyOf (entryNames (now (serial .entry)) (now (s .entry))) (inside (now (s .entry)) entries) ⌝ }
+{
+    let stop = entries.stop;
+    let mut at = entries.start;
+    while at < stop {
+        let e = der::element_at(s, at, stop);
+        if entry_names(serial, s, e) {
+            return true;
+        }
+        if !e.good {
+            return false;
+        }
+        at = e.stop;
+    }
+    false
+}
+
+// A HardwareModules: "the same hwType with .."
+fn module_names(hwtype: &[u8], serial: &[u8], s: &[u8], m: Element) -> bool
+    ensures { λ r. ⌜ r ≡ moduleNames (now (hwtype .entry)) (now (serial .entry)) (now (s .entry)) m ⌝ }
+{
+    if !octets::equal(der::contents(s, der::field(s, m, 0x06)), hwtype) {
+        return false;
+    }
+    any_entry(serial, s, der::field(s, m, 0x30))
+}
+
+// Whether one of the modules names the device.
+fn any_module(hwtype: &[u8], serial: &[u8], s: &[u8], t: Element) -> bool
+    ensures { λ r.
+        ⌜ r ≡ anyOf (moduleNames (now (hwtype .entry)) (now (serial .entry)) (now (s .entry))) (inside (now (s .entry)) t) ⌝ }
+{
+    let stop = t.stop;
+    let mut at = t.start;
+    while at < stop {
+        let m = der::element_at(s, at, stop);
+        if module_names(hwtype, serial, s, m) {
+            return true;
+        }
+        if !m.good {
+            return false;
+        }
+        at = m.stop;
+    }
+    false
+}
+
+fn wide(x: u8) -> usize
+    ensures { λ r. ⌜ r ≡ x ⌝ }
+{
+    x as usize
+}
+
+// Where n octets from place at on end, in a string of so many octets.
+fn end_of(at: usize, n: usize, size: usize) -> usize
+    requires { ⌜ at ≤ size ⌝ }
+    ensures { λ r. ⌜ r ≡ min (at + n) size ⌝ }
+{
+    if size - at < n {
+        return size;
+    }
+    at + n
+}
+
+// Whether o is one of the names, which stand one behind the other: a length of one octet, and as many octets.
+pub fn is_among(o: &[u8], names: &[u8]) -> bool
+    ensures { λ r. ⌜ r ≡ member (now (o .entry)) (namesIn (now (names .entry))) ⌝ }
+{
+    let mut i = 0;
+    while i < names.len() {
+        let at = i + 1;
+        let end = end_of(at, wide(names[i]), names.len());
+        if octets::equal(o, octets::part(names, at, end)) {
+            return true;
+        }
+        i = end;
+    }
+    false
+}
+
+// Whether one of the target's communities is in the store.
+fn any_community(communities: &[u8], s: &[u8], t: Element) -> bool
+    ensures { λ r.
+        ⌜ r ≡ anyOf (λ c. member (contentsOf (now (s .entry)) c) (namesIn (now (communities .entry)))) (inside (now (s .entry)) t) ⌝ }
+{
+    let stop = t.stop;
+    let mut at = t.start;
+    while at < stop {
+        let c = der::element_at(s, at, stop);
+        if is_among(der::contents(s, c), communities) {
+            return true;
+        }
+        if !c.good {
+            return false;
+        }
+        at = c.stop;
+    }
+    false
+}
+
+// "allModules; a community in the store; or the same hwType with .."
+fn names_device(hwtype: &[u8], serial: &[u8], communities: &[u8], s: &[u8], t: Element) -> bool
+    ensures { λ r.
+        ⌜ r ≡ names (now (hwtype .entry)) (now (serial .entry)) (namesIn (now (communities .entry))) (now (s .entry)) t ⌝ }
+{
+    if t.tag == 0x83 {
+        return true;
+    }
+    if t.tag == 0xA2 {
+        return any_community(communities, s, t);
+    }
+    any_module(hwtype, serial, s, t)
+}
+
+// 38 and 23, where t is the target in the message s, and communities are the octets of the store's.
+pub fn judge_target(
+    hwtype: &[u8],
+    serial: &[u8],
+    communities: &[u8],
+    s: &[u8],
+    t: Element,
+) -> Target
+    ensures { λ r.
+        ⌜ r ≡ targetOf (now (hwtype .entry)) (now (serial .entry)) (namesIn (now (communities .entry))) (now (s .entry)) t ⌝ }
+{
+    if t.tag == 0x84 {
+        return Target::Unsupported;
+    }
+    if t.tag == 0xA5 {
+        return Target::Unsupported;
+    }
+    if names_device(hwtype, serial, communities, s, t) {
+        return Target::Named;
+    }
+    Target::Elsewhere
 }

@@ -4,8 +4,11 @@ use Prim.Native.Nat.{ℕ, _+_, _*_}
 use mathlib.Core.List.{List, [], _∷_, _++_, map, flatMap}
 use lib.ListN.{length}
 use Rattle.octets.specs.declared.Status.{Status}
-use Rattle.der.specs.Write.{lengthOctets, header}
-use Rattle.reply.specs.Replies.{statusCode}
+use Rattle.der.specs.Write.{lengthOctets, header, element}
+use Rattle.store.specs.Records.{recordsFrom, recordsOf}
+use Rattle.store.specs.Parts.{identifierIn, namesFrom, communitiesOf}
+use Rattle.reply.specs.declared.ResponseSizes.{ResponseSizes}
+use Rattle.reply.specs.Replies.{statusCode, communityList}
 
 -- a status by its number
 abbrev pub statusOf : ℕ → Status
@@ -19,9 +22,9 @@ statusCodes codes = flatMap statusCode (map statusOf codes)
 abbrev pub elementSize : ℕ → ℕ
 elementSize n = length (lengthOctets n) + 1 + n
 
--- TAMPError: n octets of contents, m of msgType
-unfoldable pub errorParts : ℕ → ℕ → List ℕ → ℕ → List ℕ → List ℕ
-errorParts n m msgType code msgRef = header 0x30 n ++ (header 0x06 m ++ (msgType ++ (header 0x0A 1 ++ ((code ∷ []) ++ msgRef))))
+-- TAMPError: n octets of contents, m of msgType; the one status as a list of codes
+unfoldable pub errorParts : ℕ → ℕ → List ℕ → List ℕ → List ℕ → List ℕ
+errorParts n m msgType codes msgRef = header 0x30 n ++ (header 0x06 m ++ (msgType ++ (statusCodes codes ++ msgRef)))
 
 abbrev pub errorContents : ℕ → ℕ → ℕ
 errorContents m k = elementSize m + 3 + k
@@ -34,8 +37,37 @@ abbrev pub updateContents : ℕ → ℕ → ℕ
 updateContents k count = k + elementSize (3 * count)
 
 -- TAMPCommunityUpdateConfirm and SequenceNumberAdjustConfirm: n octets of contents, and the tag of the one status
-unfoldable pub confirmParts : ℕ → List ℕ → ℕ → ℕ → List ℕ
-confirmParts n msgRef tag code = header 0x30 n ++ (msgRef ++ (header tag 1 ++ (code ∷ [])))
+unfoldable pub confirmParts : ℕ → List ℕ → ℕ → List ℕ → List ℕ
+confirmParts n msgRef tag code = header 0x30 n ++ (msgRef ++ (header tag 1 ++ code))
 
 abbrev pub confirmContents : ℕ → ℕ
 confirmContents k = k + 3
+
+-- KeyIdentifiers' members: the identifiers of the n records at the head of octets; those of an image, in store order
+unfoldable pub identifiersFrom : ℕ → List ℕ → List ℕ
+identifiersFrom n s = flatMap (element 0x04) (map identifierIn (recordsFrom n s))
+
+unfoldable pub identifierParts : List ℕ → List ℕ
+identifierParts image = flatMap (element 0x04) (map identifierIn (recordsOf image))
+
+-- CommunityIdentifierList's members: the n names at the head of octets; the list of an image's, unless there are none
+unfoldable pub communitiesFrom : ℕ → List ℕ → List ℕ
+communitiesFrom n s = flatMap (element 0x06) (namesFrom n s)
+
+unfoldable pub communityParts : List ℕ → List ℕ
+communityParts image = communityList (communitiesOf image)
+
+-- TAMPStatusResponse: n octets of contents, a of the response, m of the identifiers
+unfoldable pub responseParts : ℕ → List ℕ → ℕ → ℕ → List ℕ → List ℕ
+responseParts n msgRef a m image =
+    header 0x30 n ++ (msgRef ++ (header 0xA0 a ++ (header 0x30 m ++ (identifierParts image ++ communityParts image))))
+
+abbrev pub terseContents : List ℕ → ℕ
+terseContents image = elementSize (length (identifierParts image)) + length (communityParts image)
+
+abbrev pub responseContents : ℕ → List ℕ → ℕ
+responseContents k image = k + elementSize (terseContents image)
+
+-- the three together
+abbrev pub responseSizes : ℕ → List ℕ → ResponseSizes
+responseSizes k image = record { contents = responseContents k image; terse = terseContents image; identifiers = length (identifierParts image) }

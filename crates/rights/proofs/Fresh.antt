@@ -2,10 +2,12 @@
 use Prim.Native.Nat.{ℕ, zero, suc, _+_, _≤_, _<_}
 use native.Mathlib.Omega.{arith}
 use borrow.Author.Count.{below-more}
-use mathlib.Core.Bool.{Bool, true, false, not}
+use mathlib.Core.Bool.{Bool, true, false, not, true≢false}
 use mathlib.Core.List.{List}
-use mathlib.Core.Path.{_≡_, ap}
+use mathlib.Core.Path.{_≡_, sym, ap, _∙_}
 use lib.ListN.{length, length-append, length-map}
+use lib.Dec.{eqb}
+use borrow.Author.Tests.{eqb-true, eqb-false}
 use Rattle.octets.specs.Lists.{keep}
 use Rattle.octets.specs.Octets.{same, member}
 use Rattle.octets.specs.Limits.{maxEntries, maxValues}
@@ -59,6 +61,19 @@ module _ (key : ℕ → Key) (differ : (i j : ℕ) → key i ≡ key j → i ≡
 
   pub fresh-bounded : (l : List Key) → fresh key l ≤ length l
   fresh-bounded l = fresh-is l .bounded
+
+  -- the next one, where all before it are listed
+  pub fresh-more : (l : List Key) (n : ℕ) → n ≤ fresh key l → member (key n) l ≡ true → n + 1 ≤ fresh key l
+  fresh-more l n h m =
+      by-test (eqb n (fresh key l))
+      (λ e. absurd (true≢false (sym m ∙ ap (λ (i : ℕ). member (key i) l) (eqb-true n (fresh key l) e) ∙ fresh-new l)))
+      (λ e. let d = eqb-false n (fresh key l) e in omega arith)
+
+  pub fresh-found : (l : List Key) (n : ℕ) → n ≤ fresh key l → member (key n) l ≡ false → n ≡ fresh key l
+  fresh-found l n h m =
+      by-test (eqb n (fresh key l))
+      (λ e. eqb-true n (fresh key l) e)
+      (λ e. let d = eqb-false n (fresh key l) e in absurd (true≢false (sym (fresh-least l n (omega arith)) ∙ m)))
 
 -- the two kinds of keys that are made
 

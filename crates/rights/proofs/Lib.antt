@@ -4,3 +4,10 @@ pub mod Outside
 pub mod Types
 pub mod Within
 pub mod Examples
+pub mod Run
+pub mod Places
+pub mod Values
+pub mod Attributes
+pub mod Engine
+pub mod Verdict
+pub mod Apex

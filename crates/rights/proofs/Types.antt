@@ -10,18 +10,18 @@ use Rattle.rights.proofs.Fresh.{fresh-new, oid-differ}
 use Rattle.rights.proofs.Lookup.{lookup-unlisted}
 use Rattle.rights.proofs.Outside.{entry-some, entry-none}
 
-governing-unlisted : (rights : Rights) (type : Key) → member type (keys rights) ≡ false → governing rights type ≡ lookup anyContentType rights
+pub governing-unlisted : (rights : Rights) (type : Key) → member type (keys rights) ≡ false → governing rights type ≡ lookup anyContentType rights
 unfolding governing orElse
 governing-unlisted rights type t = rw (lookup-unlisted rights type t)
 
 module _ (signer new : Rights) where
   -- what neither lists, the signer does not list, nor does the new anchor
-  neither-lists : (type : Key) → member type (listedTypes signer new) ≡ false → (member type (keys new) ≡ false) × (member type (keys signer) ≡ false)
+  pub neither-lists : (type : Key) → member type (listedTypes signer new) ≡ false → (member type (keys new) ≡ false) × (member type (keys signer) ≡ false)
   unfolding listedTypes
   neither-lists type t =
       neither (member type (keys new)) (member type (keys signer)) (sym (member-append type (keys new) (keys signer)) ∙ t)
 
-  unlistedType-new : member (unlistedType signer new) (listedTypes signer new) ≡ false
+  pub unlistedType-new : member (unlistedType signer new) (listedTypes signer new) ≡ false
   unfolding unlistedType
   unlistedType-new = fresh-new oid oid-differ (listedTypes signer new)
 

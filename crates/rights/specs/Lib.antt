@@ -3,3 +3,6 @@ pub mod Decision
 pub mod Examples
 pub mod Constraints
 pub mod Attributes
+pub mod Places
+pub mod Answer
+pub mod Apex

@@ -4,3 +4,6 @@ pub mod Formats
 pub mod RoundTrip
 pub mod Sizes
 pub mod Places
+pub mod Walk
+pub mod Taken
+pub mod Parts

@@ -59,8 +59,8 @@ infoIn r = drop 11 r
 abbrev pub identifierIn : List ℕ → List ℕ
 identifierIn r = keyIdentifier (infoIn r)
 
-abbrev pub keyIn : List ℕ → List ℕ
-keyIn r = publicKey (infoIn r)
+abbrev pub publicKeyIn : List ℕ → List ℕ
+publicKeyIn r = publicKey (infoIn r)
 
 unfoldable pub numberIn : List ℕ → Option ℕ
 numberIn r = presentNumber (octet r 0) (number (take 8 (drop 1 r)))

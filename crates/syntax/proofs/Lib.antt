@@ -5,3 +5,8 @@ pub mod Fields
 pub mod Rules
 pub mod Depth
 pub mod Moved
+pub mod Rows
+pub mod RowRules
+pub mod RowSteps
+pub mod Ties
+pub mod TypeTable

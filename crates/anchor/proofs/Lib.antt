@@ -1,0 +1,4 @@
+pub mod Runs
+pub mod Rights
+pub mod Constraints
+pub mod Stages

@@ -1,0 +1,20 @@
+-- `anchor::constraints_value` meets its contract. Assumes nothing.
+use borrow.Author.Needs.{needs}
+use Rattle.anchor.proofs.constraints_value.Statement.{statement}
+use Rattle.anchor.proofs.constraints_value.Tie as tie
+
+constraints-extension-requires : tie.Need-constraints-extension-requires
+constraints-extension-requires c κs = search needs
+
+field-requires : tie.Need-field-requires
+field-requires c κs = search needs
+
+contents-requires : tie.Need-contents-requires
+contents-requires c κs = search needs
+
+returns : tie.Need-returns
+returns c = rw (c .contents .ensures, c .before .field .ensures, c .before .before .constraints-extension .ensures)
+
+pub constraints-value-spec : {M : Type 1} → statement M
+constraints-value-spec =
+    tie.close (tie.spec constraints-extension-requires field-requires contents-requires returns)

@@ -1,0 +1,54 @@
+-- `edit::put_record` meets its contract. Assumes nothing.
+use Prim.Native.Nat.{ℕ, _+_}
+use native.Mathlib.Omega.{arith}
+use mathlib.Core.List.{List}
+use mathlib.Core.Path.{ap, _∙_}
+use lib.ListN.{length}
+use Rattle.octets.specs.Octets.{placed}
+use Rattle.octets.specs.Number.{bigEndian}
+use Rattle.edit.proofs.Writes.{record-written}
+use borrow.Author.Needs.{needs}
+use Rattle.edit.proofs.put_record.Statement.{statement}
+use Rattle.edit.proofs.put_record.Tie as tie
+
+put-be-requires : tie.Need-put-be-requires
+put-be-requires c κs = search needs
+
+add-put-be : tie.Need-add-put-be
+add-put-be c = search needs
+
+put-be-requires-2 : tie.Need-put-be-requires-2
+put-be-requires-2 c κs = search needs
+
+add-copy-to : tie.Need-add-copy-to
+add-copy-to c = search needs
+
+copy-to-requires : tie.Need-copy-to-requires
+copy-to-requires c κs = search needs
+
+same-length : tie.Need-same-length
+same-length c = search needs
+
+returns : tie.Need-returns
+returns c =
+    let third = c .before .before in
+    let second = third .before .before .before .before in
+    let first = second .before .before .before .before in
+    let a = first .before .before .before .before .args in
+    let b = bigEndian 2 (length (a .info .now)) in
+    third .copy-to .ensures
+    ∙ ap (λ (r : List ℕ). placed r (a .at + 11) (a .info .now)) (second .put-be2 .ensures)
+    ∙ ap (λ (r : List ℕ). placed (placed r (a .at + 9) b) (a .at + 11) (a .info .now)) (first .put-be .ensures)
+    ∙ record-written (a .buf .now) (a .at) (a .info .now) (omega arith)
+
+pub put-record-spec : {M : Type 1} → statement M
+put-record-spec =
+    tie.close
+    (tie.spec
+    put-be-requires
+    add-put-be
+    put-be-requires-2
+    add-copy-to
+    copy-to-requires
+    same-length
+    returns)

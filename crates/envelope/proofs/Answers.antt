@@ -1,0 +1,144 @@
+-- 01, Answers: the rows 29 to 8 of specs/Rows and the parts of specs/Parts, as a reader of the message comes upon them.
+use Prim.Native.Nat.{ℕ}
+use mathlib.Core.Bool.{Bool, true, false, not, _&&_, _||_}
+use mathlib.Core.List.{List}
+use mathlib.Core.Path.{_≡_, refl, sym, ap, _∙_}
+use lib.ListN.{length}
+use Rattle.der.specs.declared.Fit.{Fit}
+use Rattle.der.specs.declared.Fit.the-variants.{Fits, Breaks}
+use Rattle.der.specs.declared.Element.{Element}
+use Rattle.der.specs.Element.{elementAt, contents, field, fieldBehind}
+use Rattle.der.specs.Fit.{kept}
+use Rattle.der.proofs.Bools.{and-false}
+use Rattle.der.proofs.Fits.{held-fits, held-breaks}
+use Rattle.syntax.specs.declared.TampType.{TampType}
+use Rattle.syntax.specs.declared.Recognised.{Recognised}
+use Rattle.syntax.specs.declared.Recognised.the-variants.{Tamp, Unknown}
+use Rattle.syntax.specs.Grammar.{fit}
+use Rattle.syntax.specs.Asn.{ContentInfo}
+use Rattle.syntax.specs.Types.{recognised}
+use Rattle.syntax.specs.declared.Form.the-variants as form
+use Rattle.syntax.specs.Forms.{formSyntax}
+use Rattle.envelope.specs.declared.Envelope.{Envelope}
+use Rattle.envelope.specs.declared.Envelope.the-variants.{Opened}
+use Rattle.envelope.specs.Parts.{contentInfo, contentType, content, signedData, encapContentInfo, certificates, crls, signerInfos, eContentType, eContentTag, eContent}
+use Rattle.envelope.specs.Parts.{signerInfo, subjectKeyIdentifier, signedAttrs, unsignedAttrs}
+use Rattle.envelope.specs.Attributes.{attributesFit}
+use Rattle.envelope.specs.Rows.{isTamp, row-29, row-3, row-4, row-9, row-18, row-5, row-6, row-7, row-8, givenUnknown}
+
+-- 29: one of the four types, and a ContentInfo
+module _ (s : List ℕ) where
+  pub bare-unknown : recognised (contents s (contentType s)) ≡ Unknown → false ≡ row-29 s
+  unfolding row-29
+  bare-unknown h =
+      let f = fit ContentInfo s 0 (length s) 0 in
+      sym (ap (λ (r : Recognised). kept f && isTamp r) h ∙ and-false (kept f))
+
+  pub bare-breaks : {o : ℕ} → fit ContentInfo s 0 (length s) 0 ≡ Breaks o → false ≡ row-29 s
+  unfolding row-29
+  bare-breaks h = sym (ap (λ (f : Fit). kept f && isTamp (recognised (contents s (contentType s)))) h)
+
+  pub bare-both : {t : TampType} → fit ContentInfo s 0 (length s) 0 ≡ Fits → recognised (contents s (contentType s)) ≡ Tamp t → true ≡ row-29 s
+  unfolding row-29
+  bare-both h k = sym (ap (λ (f : Fit). kept f && isTamp (recognised (contents s (contentType s)))) h ∙ ap isTamp k)
+
+-- 18
+module _ (answer : Envelope) (next : TampType → Envelope) where
+  pub known : {r : Recognised} {t : TampType} → r ≡ Tamp t → givenUnknown r answer next ≡ next t
+  unfolding givenUnknown
+  known h = rw h
+
+  pub unknown : {r : Recognised} → r ≡ Unknown → givenUnknown r answer next ≡ answer
+  unfolding givenUnknown
+  unknown h = rw h
+
+-- the parts of the message, one from the other, and the rows that read them
+module _ (s : List ℕ) where
+  pub content-is : {outer e : Element} → outer ≡ elementAt s 0 (length s) → e ≡ field 0xA0 s outer → e ≡ content s
+  unfolding contentInfo content
+  content-is p q = rw (← p) q
+
+  pub signedData-is : {outer e : Element} → outer ≡ content s → e ≡ field 0x30 s outer → e ≡ signedData s
+  unfolding signedData
+  signedData-is p q = rw (← p) q
+
+  pub encapContentInfo-is : {outer e : Element} → outer ≡ signedData s → e ≡ field 0x30 s outer → e ≡ encapContentInfo s
+  unfolding encapContentInfo
+  encapContentInfo-is p q = rw (← p) q
+
+  pub eContentType-is : {outer e : Element} → outer ≡ encapContentInfo s → e ≡ field 0x06 s outer → e ≡ eContentType s
+  unfolding eContentType
+  eContentType-is p q = rw (← p) q
+
+  pub eContentTag-is : {outer e : Element} → outer ≡ encapContentInfo s → e ≡ field 0xA0 s outer → e ≡ eContentTag s
+  unfolding eContentTag
+  eContentTag-is p q = rw (← p) q
+
+  pub eContent-is : {outer e : Element} → outer ≡ eContentTag s → e ≡ field 0x04 s outer → e ≡ eContent s
+  unfolding eContent
+  eContent-is p q = rw (← p) q
+
+  pub signerInfos-is : {outer former e : Element} → outer ≡ signedData s → former ≡ encapContentInfo s → e ≡ fieldBehind 0x31 s outer former → e ≡ signerInfos s
+  unfolding signerInfos
+  signerInfos-is p r q = rw (← p, ← r) q
+
+  pub signerInfo-is : {outer e : Element} → outer ≡ signerInfos s → e ≡ field 0x30 s outer → e ≡ signerInfo s
+  unfolding signerInfo
+  signerInfo-is p q = rw (← p) q
+
+  pub subjectKeyIdentifier-is : {outer e : Element} → outer ≡ signerInfo s → e ≡ field 0x80 s outer → e ≡ subjectKeyIdentifier s
+  unfolding subjectKeyIdentifier
+  subjectKeyIdentifier-is p q = rw (← p) q
+
+  pub signedAttrs-is : {outer e : Element} → outer ≡ signerInfo s → e ≡ field 0xA0 s outer → e ≡ signedAttrs s
+  unfolding signedAttrs
+  signedAttrs-is p q = rw (← p) q
+
+  pub unsignedAttrs-is : {outer e : Element} → outer ≡ signerInfo s → e ≡ field 0xA1 s outer → e ≡ unsignedAttrs s
+  unfolding unsignedAttrs
+  unsignedAttrs-is p q = rw (← p) q
+
+  pub row-3-is : {e : Element} {f : Fit} → e ≡ content s → f ≡ fit (formSyntax form.SignedData) s (e .start) (e .stop) (e .at) → row-3 s ≡ f
+  unfolding row-3 formSyntax
+  row-3-is p q = rw (← p) (sym q)
+
+  pub row-4-is : {e : Element} {f : Fit} → e ≡ encapContentInfo s
+      → f ≡ fit (formSyntax form.EncapsulatedContentInfo) s (e .start) (e .stop) (e .at) → row-4 s ≡ f
+  unfolding row-4 formSyntax
+  row-4-is p q = rw (← p) (sym q)
+
+  pub row-9-is : {e : Element} → e ≡ eContentTag s → row-9 s ≡ not (e .good)
+  unfolding row-9
+  row-9-is p = rw p
+
+  pub row-18-is : {e : Element} {o : List ℕ} {r : Recognised} → e ≡ eContentType s → o ≡ contents s e → r ≡ recognised o → row-18 s ≡ r
+  unfolding row-18
+  row-18-is p q k = rw (← p, ← q) (sym k)
+
+  pub row-5-is : {e : Element} {b : Bool} → e ≡ signedData s → b ≡ field 0xA0 s e .good || field 0xA1 s e .good → row-5 s ≡ b
+  unfolding row-5 certificates crls
+  row-5-is p q = rw (← p) (sym q)
+
+  pub row-6-is : {e : Element} {f : Fit} → e ≡ signerInfos s → f ≡ fit (formSyntax form.OneSignerInfo) s (e .start) (e .stop) (e .at) → row-6 s ≡ f
+  unfolding row-6 formSyntax
+  row-6-is p q = rw (← p) (sym q)
+
+  pub row-7-is : {type signer attributes : Element} {o : List ℕ} {f : Fit} → type ≡ eContentType s → signer ≡ signerInfo s → attributes ≡ signedAttrs s
+      → o ≡ contents s type → f ≡ attributesFit o s signer attributes → row-7 s ≡ f
+  unfolding row-7
+  row-7-is p q r k h = rw (← p, ← q, ← r, ← k) (sym h)
+
+  pub row-8-fits : {e : Element} → e ≡ unsignedAttrs s → e .good ≡ false → row-8 s ≡ Fits
+  unfolding row-8
+  row-8-fits p h = rw (← p) (held-fits _ (ap not h))
+
+  pub row-8-breaks : {e : Element} → e ≡ unsignedAttrs s → e .good ≡ true → row-8 s ≡ Breaks (e .at)
+  unfolding row-8
+  row-8-breaks p h = rw (← p) (held-breaks _ (ap not h))
+
+-- what the rows leave, part by part
+pub opened : {kind : TampType} {type type' content content' signer signer' attributes attributes' : Element}
+    → type ≡ type' → content ≡ content' → signer ≡ signer' → attributes ≡ attributes'
+    → Opened (record { kind = kind; msgtype = type; content = content; signer = signer; attributes = attributes })
+    ≡ Opened (record { kind = kind; msgtype = type'; content = content'; signer = signer'; attributes = attributes' })
+opened p q r h = rw (p, q, r, h)

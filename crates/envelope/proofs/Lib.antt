@@ -1,0 +1,4 @@
+pub mod Given
+pub mod Runs
+pub mod Attributes
+pub mod Answers

@@ -1,0 +1,78 @@
+-- `envelope::attributes_fit` meets its contract. Assumes nothing.
+use borrow.Author.Needs.{needs}
+use mathlib.Core.Path.{_≡_, refl, sym, ap, _∙_}
+use mathlib.Core.Bool.{Bool, _&&_}
+use borrow.Author.Tests.{not-true, not-false}
+use Rattle.der.proofs.Fits.{then-fits, then-breaks, held-fits, held-breaks}
+use Rattle.envelope.proofs.Attributes.{attributes-absent, attributes-run, types-first, types-second, types-both}
+use Rattle.envelope.proofs.attributes_fit.Statement.{statement}
+use Rattle.envelope.proofs.attributes_fit.Tie as tie
+
+returns : tie.Need-returns
+returns c = sym (attributes-absent _ _ _ _ (not-true _ (c .if1 .taken)))
+
+each-attribute-requires : tie.Need-each-attribute-requires
+each-attribute-requires c κs = search needs
+
+enum-known-o : tie.Need-enum-known-o
+enum-known-o c = search needs
+
+returns-2 : tie.Need-returns-2
+returns-2 c = sym (attributes-run _ _ _ _ (not-false _ (c .before .before .before .before .if1 .left)) ∙ then-breaks _ (sym (c .before .before .before .each-attribute .ensures) ∙ c .before .o .given .1))
+
+enum-told : tie.Need-enum-told
+enum-told c = search needs
+
+slice-aggregate-has-type : tie.Need-slice-aggregate-has-type
+slice-aggregate-has-type c = search needs
+
+has-type-requires : tie.Need-has-type-requires
+has-type-requires c κs = search needs
+
+returns-3 : tie.Need-returns-3
+returns-3 c =
+    let a = c .before .before .before .before .before .before .before .before .before .before .args in
+    sym
+    (attributes-run _ _ _ _ (not-false _ (c .before .before .before .before .before .before .if1 .left))
+    ∙ then-fits _ (sym (c .before .before .before .before .before .each-attribute .ensures) ∙ c .before .before .before .enum-told .given .1)
+    ∙ held-breaks _ (types-first (a .s .now) (a .attributes) (c .before .has-type .ensures) (not-true _ (c .if2 .taken))))
+
+slice-aggregate-has-type-2 : tie.Need-slice-aggregate-has-type-2
+slice-aggregate-has-type-2 c = search needs
+
+has-type-requires-2 : tie.Need-has-type-requires-2
+has-type-requires-2 c κs = search needs
+
+returns-4 : tie.Need-returns-4
+returns-4 c =
+    let a = c .before .before .before .before .before .before .before .before .before .before .before .before .before .args in
+    sym
+    (attributes-run _ _ _ _ (not-false _ (c .before .before .before .before .before .before .before .before .before .if1 .left))
+    ∙ then-fits _ (sym (c .before .before .before .before .before .before .before .before .each-attribute .ensures) ∙ c .before .before .before .before .before .before .enum-told .given .1)
+    ∙ held-breaks _ (types-second (a .s .now) (a .attributes) (c .before .has-type2 .ensures) (not-true _ (c .if3 .taken))))
+
+returns-5 : tie.Need-returns-5
+returns-5 c =
+    let a = c .before .before .before .before .before .before .before .before .before .before .before .before .before .args in
+    sym
+    (attributes-run _ _ _ _ (not-false _ (c .before .before .before .before .before .before .before .before .before .if1 .left))
+    ∙ then-fits _ (sym (c .before .before .before .before .before .before .before .before .each-attribute .ensures) ∙ c .before .before .before .before .before .before .enum-told .given .1)
+    ∙ held-fits _
+    (types-both (a .s .now) (a .attributes) (c .before .before .before .before .has-type .ensures) (not-false _ (c .before .before .before .if2 .left)) (c .before .has-type2 .ensures) (not-false _ (c .if3 .left))))
+
+pub attributes-fit-spec : {M : Type 1} → statement M
+attributes-fit-spec =
+    tie.close
+    (tie.spec
+    returns
+    each-attribute-requires
+    enum-known-o
+    returns-2
+    enum-told
+    slice-aggregate-has-type
+    has-type-requires
+    returns-3
+    slice-aggregate-has-type-2
+    has-type-requires-2
+    returns-4
+    returns-5)

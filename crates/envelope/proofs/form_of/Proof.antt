@@ -1,0 +1,46 @@
+-- `envelope::form_of` meets its contract. Assumes nothing.
+use borrow.Author.Needs.{needs}
+use mathlib.Core.Path.{_≡_, refl, sym, ap, _∙_}
+use Rattle.octets.specs.Octets.{same}
+use Rattle.envelope.proofs.Attributes.{contentType-octets, messageDigest-octets, form-content, form-digest, form-other}
+use Rattle.envelope.proofs.form_of.Statement.{statement}
+use Rattle.envelope.proofs.form_of.Tie as tie
+
+slice-aggregate-equal : tie.Need-slice-aggregate-equal
+slice-aggregate-equal c = search needs
+
+equal-requires : tie.Need-equal-requires
+equal-requires c κs = search needs
+
+returns : tie.Need-returns
+returns c = form-content _ (ap (same _) contentType-octets ∙ sym (c .before .equal .ensures) ∙ c .if1 .taken)
+
+slice-aggregate-equal-2 : tie.Need-slice-aggregate-equal-2
+slice-aggregate-equal-2 c = search needs
+
+equal-requires-2 : tie.Need-equal-requires-2
+equal-requires-2 c κs = search needs
+
+returns-2 : tie.Need-returns-2
+returns-2 c =
+    form-digest _
+    (ap (same _) contentType-octets ∙ sym (c .before .before .before .before .equal .ensures) ∙ c .before .before .before .if1 .left)
+    (ap (same _) messageDigest-octets ∙ sym (c .before .equal2 .ensures) ∙ c .if2 .taken)
+
+returns-3 : tie.Need-returns-3
+returns-3 c =
+    form-other _
+    (ap (same _) contentType-octets ∙ sym (c .before .before .before .before .equal .ensures) ∙ c .before .before .before .if1 .left)
+    (ap (same _) messageDigest-octets ∙ sym (c .before .equal2 .ensures) ∙ c .if2 .left)
+
+pub form-of-spec : {M : Type 1} → statement M
+form-of-spec =
+    tie.close
+    (tie.spec
+    slice-aggregate-equal
+    equal-requires
+    returns
+    slice-aggregate-equal-2
+    equal-requires-2
+    returns-2
+    returns-3)

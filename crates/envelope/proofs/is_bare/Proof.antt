@@ -1,0 +1,66 @@
+-- `envelope::is_bare` meets its contract. Assumes nothing.
+use borrow.Author.Needs.{needs}
+use mathlib.Core.Path.{_≡_, refl, sym, ap, _∙_}
+use Rattle.der.specs.Element.{contents}
+use Rattle.syntax.specs.Forms.{formSyntax}
+use Rattle.syntax.specs.Types.{recognised}
+use Rattle.envelope.proofs.Answers.{bare-unknown, bare-breaks, bare-both}
+use Rattle.envelope.proofs.is_bare.Statement.{statement}
+use Rattle.envelope.proofs.is_bare.Tie as tie
+
+content-type-requires : tie.Need-content-type-requires
+content-type-requires c κs = search needs
+
+contents-requires : tie.Need-contents-requires
+contents-requires c κs = search needs
+
+recognise-requires : tie.Need-recognise-requires
+recognise-requires c κs = search needs
+
+enum-told : tie.Need-enum-told
+enum-told c = search needs
+
+returns : tie.Need-returns
+returns c =
+    let a = c .before .before .before .before .before .before .args in
+    let q = sym (c .before .before .before .contents .ensures ∙ ap (contents (a .s .now)) (c .before .before .before .before .content-type .ensures)) in
+    bare-unknown (a .s .now) (ap recognised q ∙ sym (c .before .before .recognise .ensures) ∙ c .enum-told .given .1)
+
+enum-told-2 : tie.Need-enum-told-2
+enum-told-2 c = search needs
+
+fits-requires : tie.Need-fits-requires
+fits-requires c κs = search needs
+
+enum-told-3 : tie.Need-enum-told-3
+enum-told-3 c = search needs
+
+returns-2 : tie.Need-returns-2
+unfolding formSyntax
+returns-2 c = bare-breaks (c .before .before .before .before .before .before .before .before .before .args .s .now) (sym (c .before .before .fits2 .ensures) ∙ c .enum-told3 .given .1)
+
+enum-told-4 : tie.Need-enum-told-4
+enum-told-4 c = search needs
+
+returns-3 : tie.Need-returns-3
+unfolding formSyntax
+returns-3 c =
+    let a = c .before .before .before .before .before .before .before .before .before .args in
+    let q = sym (c .before .before .before .before .before .before .contents .ensures ∙ ap (contents (a .s .now)) (c .before .before .before .before .before .before .before .content-type .ensures)) in
+    bare-both (a .s .now) (sym (c .before .before .fits2 .ensures) ∙ c .enum-told4 .given .1) (ap recognised q ∙ sym (c .before .before .before .before .before .recognise .ensures) ∙ c .before .before .before .enum-told2 .given .1)
+
+pub is-bare-spec : {M : Type 1} → statement M
+is-bare-spec =
+    tie.close
+    (tie.spec
+    content-type-requires
+    contents-requires
+    recognise-requires
+    enum-told
+    returns
+    enum-told-2
+    fits-requires
+    enum-told-3
+    returns-2
+    enum-told-4
+    returns-3)

@@ -1,0 +1,40 @@
+-- `envelope::is_in_place` meets its contract. Assumes nothing.
+use borrow.Author.Needs.{needs}
+use mathlib.Core.Path.{_≡_, refl, sym, ap, _∙_}
+use borrow.Author.Tests.{not-true, not-false}
+use Rattle.envelope.proofs.Attributes.{placed-not, placed-if}
+use Rattle.envelope.proofs.is_in_place.Statement.{statement}
+use Rattle.envelope.proofs.is_in_place.Tie as tie
+
+whole-requires : tie.Need-whole-requires
+whole-requires c κs = search needs
+
+whole-requires-2 : tie.Need-whole-requires-2
+whole-requires-2 c κs = search needs
+
+in-order-requires : tie.Need-in-order-requires
+in-order-requires c κs = search needs
+
+returns : tie.Need-returns
+returns c = let a = c .before .before .before .before .before .args in placed-not (a .s .now) (a .attributes) (a .former) (a .e) (c .before .before .before .whole .ensures) (c .before .before .whole2 .ensures) (sym (c .before .in-order .ensures) ∙ not-true _ (c .if1 .taken))
+
+attr-type-requires : tie.Need-attr-type-requires
+attr-type-requires c κs = search needs
+
+has-type-requires : tie.Need-has-type-requires
+has-type-requires c κs = search needs
+
+returns-2 : tie.Need-returns-2
+returns-2 c = let a = c .before .before .before .before .before .before .before .args in placed-if (a .s .now) (a .attributes) (a .former) (a .e) (c .before .before .before .before .before .whole .ensures) (c .before .before .before .before .whole2 .ensures) (sym (c .before .before .before .in-order .ensures) ∙ not-false _ (c .before .before .if1 .left)) (c .before .attr-type .ensures) (c .has-type .ensures)
+
+pub is-in-place-spec : {M : Type 1} → statement M
+is-in-place-spec =
+    tie.close
+    (tie.spec
+    whole-requires
+    whole-requires-2
+    in-order-requires
+    returns
+    attr-type-requires
+    has-type-requires
+    returns-2)

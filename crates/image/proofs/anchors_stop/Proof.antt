@@ -1,0 +1,72 @@
+-- `image::anchors_stop` meets its contract. The loop: the answer on the whole is the answer on what is left. Assumes nothing.
+use borrow.Author.Needs.{needs}
+use mathlib.Core.Path.{_≡_, refl, sym, ap, _∙_}
+use lib.ListN.{drop}
+use Rattle.store.specs.Image.{readTimes, readAnchor}
+use Rattle.image.specs.Check.{behind, restAt}
+use Rattle.image.proofs.Checks.{times-broken, times-turn, times-end}
+use Rattle.image.proofs.anchors_stop.Statement.{statement}
+use Rattle.image.proofs.anchors_stop.Tie as tie
+
+abbrev Inv-loop : tie.InvT-loop
+Inv-loop s p n q₀ left₀ q left = behind (readTimes left readAnchor (drop q s)) ≡ behind (readTimes n readAnchor (drop p s))
+
+abbrev μ-loop : tie.MeasureT-loop
+μ-loop s p n q₀ left₀ q left = left
+
+loop-holds : tie.Need-loop-holds Inv-loop μ-loop
+loop-holds c = refl
+
+anchor-stop-requires : tie.Need-anchor-stop-requires Inv-loop μ-loop
+anchor-stop-requires c κs = search needs
+
+enum-known-e : tie.Need-enum-known-e Inv-loop μ-loop
+enum-known-e c = search needs
+
+enum-told : tie.Need-enum-told Inv-loop μ-loop
+enum-told c = search needs
+
+returns : tie.Need-returns Inv-loop μ-loop
+returns c =
+    let a = c .before .before .before .before .before .before .args in
+    let s = a .s .now in
+    let l = c .before .before .before .before .loop in
+    sym (times-broken readAnchor s (l .q) (l .left) (c .before .before .before .loop-test .taken)
+    (sym (ap (restAt s) (c .enum-told .given .1)) ∙ c .before .before .anchor-stop .ensures)) ∙ l .inv
+
+sub-left : tie.Need-sub-left Inv-loop μ-loop
+sub-left c = search needs
+
+loop-less : tie.Need-loop-less Inv-loop μ-loop
+loop-less c = search needs
+
+loop-again : tie.Need-loop-again Inv-loop μ-loop
+loop-again c =
+    let a = c .before .before .before .before .before .before .before .args in
+    let s = a .s .now in
+    let l = c .before .before .before .before .before .loop in
+    sym (times-turn readAnchor s (l .q) (l .left) (c .before .e .given .0 .0) (c .before .before .before .before .loop-test .taken)
+    (sym (ap (restAt s) (c .before .e .given .1)) ∙ c .before .before .before .anchor-stop .ensures)) ∙ l .inv
+
+returns-2 : tie.Need-returns-2 Inv-loop μ-loop
+returns-2 c =
+    let a = c .before .before .before .args in
+    let s = a .s .now in
+    let l = c .before .loop in
+    sym (times-end readAnchor s (l .q) (l .left) (c .loop-test .left)) ∙ l .inv
+
+pub anchors-stop-spec : {M : Type 1} → statement M
+anchors-stop-spec =
+    tie.close
+    (tie.spec
+    Inv-loop
+    μ-loop
+    loop-holds
+    anchor-stop-requires
+    enum-known-e
+    enum-told
+    returns
+    sub-left
+    loop-less
+    loop-again
+    returns-2)

@@ -1,0 +1,60 @@
+-- `image::community_stop` meets its contract. Assumes nothing.
+use borrow.Author.Needs.{needs}
+use mathlib.Core.Path.{sym, ap, _∙_}
+use lib.ListN.{drop}
+use borrow.Author.Tests.{not-true, not-false}
+use Rattle.der.specs.Contents.{oidOk}
+use Rattle.image.specs.Check.{behind, nameRead}
+use Rattle.image.proofs.Checks.{community-broken, community-no-oid, community-stops}
+use Rattle.image.proofs.community_stop.Statement.{statement}
+use Rattle.image.proofs.community_stop.Tie as tie
+
+name-stop-requires : tie.Need-name-stop-requires
+name-stop-requires c κs = search needs
+
+enum-known-e : tie.Need-enum-known-e
+enum-known-e c = search needs
+
+enum-told : tie.Need-enum-told
+enum-told c = search needs
+
+returns : tie.Need-returns
+returns c =
+    let a = c .before .before .before .before .args in
+    let s = a .s .now in
+    sym (ap behind (community-broken (drop (a .p) s) (sym (ap (nameRead s (a .p)) (c .enum-told .given .1)) ∙ c .before .before .name-stop .ensures)))
+
+name-at-requires : tie.Need-name-at-requires
+name-at-requires c κs = search needs
+
+is-oid-requires : tie.Need-is-oid-requires
+is-oid-requires c κs = search needs
+
+returns-2 : tie.Need-returns-2
+returns-2 c =
+    let a = c .before .before .before .before .before .before .before .before .args in
+    let s = a .s .now in
+    let o = ap oidOk (sym (c .before .before .name-at .ensures)) ∙ sym (c .before .is-oid .ensures) ∙ not-true _ (c .if1 .taken) in
+    sym (ap behind (community-no-oid (drop (a .p) s) _ _ (sym (ap (nameRead s (a .p)) (c .before .before .before .before .e .given .1))
+    ∙ c .before .before .before .before .before .before .name-stop .ensures) o))
+
+returns-3 : tie.Need-returns-3
+returns-3 c =
+    let a = c .before .before .before .before .before .before .before .before .args in
+    let s = a .s .now in
+    let o = ap oidOk (sym (c .before .before .name-at .ensures)) ∙ sym (c .before .is-oid .ensures) ∙ not-false _ (c .if1 .left) in
+    sym (community-stops (drop (a .p) s) _ _ (sym (ap (nameRead s (a .p)) (c .before .before .before .before .e .given .1))
+    ∙ c .before .before .before .before .before .before .name-stop .ensures) o)
+
+pub community-stop-spec : {M : Type 1} → statement M
+community-stop-spec =
+    tie.close
+    (tie.spec
+    name-stop-requires
+    enum-known-e
+    enum-told
+    returns
+    name-at-requires
+    is-oid-requires
+    returns-2
+    returns-3)

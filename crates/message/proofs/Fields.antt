@@ -1,0 +1,79 @@
+-- The fields of a message (specs/Fields), one way through their tests at a time; and how many elements a run has.
+use Prim.Native.Nat.{ℕ, suc, _+_, _≤_, _<_}
+use native.Mathlib.Omega.{arith}
+use mathlib.Core.Bool.{Bool, true, false}
+use mathlib.Core.List.{List, [], _∷_, map}
+use mathlib.Core.Path.{_≡_, refl, sym, ap, _∙_}
+use lib.ListN.{length}
+use lib.Dec.{eqb}
+use borrow.Author.Tests.{eq-eqb, ne-eqb}
+use Rattle.der.specs.declared.Element.{Element}
+use Rattle.der.specs.Element.{elementAt, elements, inside, field}
+use Rattle.der.proofs.Bools.{on-true, on-false}
+use Rattle.der.proofs.Elements.{elements-end, elements-broken, elements-turn}
+use Rattle.message.specs.declared.Entry.{Entry}
+use Rattle.message.specs.declared.Entry.the-variants as entry
+use Rattle.message.specs.Fields.{updatesIn, entryOf, entriesIn}
+
+module _ (s : List ℕ) (e : Element) where
+  addedOf : Element → Entry
+  addedOf choice = elim (eqb (choice .tag) 0xA2) [ true ↦ entry.Add (field 0x30 s choice) | false ↦ entry.AddCertificate ]
+
+  otherOf : Entry
+  otherOf = elim (eqb (e .tag) 0xA2) [ true ↦ entry.Remove e | false ↦ entry.Change ]
+
+  pub entry-add : e .tag ≡ 0xA1 → {choice info : Element} → choice ≡ elementAt s (e .start) (e .stop) → choice .tag ≡ 0xA2 → info ≡ field 0x30 s choice
+      → entry.Add info ≡ entryOf s e
+  unfolding entryOf addedOf otherOf
+  entry-add h {choice} {info} q k f =
+      ap entry.Add f
+      ∙ sym
+      (on-true (eqb (e .tag) 0xA1) (addedOf (elementAt s (e .start) (e .stop))) otherOf (eq-eqb _ _ h)
+      ∙ ap addedOf (sym q)
+      ∙ on-true (eqb (choice .tag) 0xA2) (entry.Add (field 0x30 s choice)) entry.AddCertificate (eq-eqb _ _ k))
+
+  pub entry-certificate : e .tag ≡ 0xA1 → {choice : Element} → choice ≡ elementAt s (e .start) (e .stop) → (choice .tag ≡ 0xA2 → ⊥)
+      → entry.AddCertificate ≡ entryOf s e
+  unfolding entryOf addedOf otherOf
+  entry-certificate h {choice} q k =
+      sym
+      (on-true (eqb (e .tag) 0xA1) (addedOf (elementAt s (e .start) (e .stop))) otherOf (eq-eqb _ _ h)
+      ∙ ap addedOf (sym q)
+      ∙ on-false (eqb (choice .tag) 0xA2) (entry.Add (field 0x30 s choice)) entry.AddCertificate (ne-eqb _ _ k))
+
+  pub entry-remove : (e .tag ≡ 0xA1 → ⊥) → e .tag ≡ 0xA2 → entry.Remove e ≡ entryOf s e
+  unfolding entryOf addedOf otherOf
+  entry-remove h k =
+      sym
+      (on-false (eqb (e .tag) 0xA1) (addedOf (elementAt s (e .start) (e .stop))) otherOf (ne-eqb _ _ h)
+      ∙ on-true (eqb (e .tag) 0xA2) (entry.Remove e) entry.Change (eq-eqb _ _ k))
+
+  pub entry-change : (e .tag ≡ 0xA1 → ⊥) → (e .tag ≡ 0xA2 → ⊥) → entry.Change ≡ entryOf s e
+  unfolding entryOf addedOf otherOf
+  entry-change h k =
+      sym
+      (on-false (eqb (e .tag) 0xA1) (addedOf (elementAt s (e .start) (e .stop))) otherOf (ne-eqb _ _ h)
+      ∙ on-false (eqb (e .tag) 0xA2) (entry.Remove e) entry.Change (ne-eqb _ _ k))
+
+-- how many elements stand from a place on
+module _ (s : List ℕ) (at stop : ℕ) where
+  pub count-end : stop ≤ at → length (elements s at stop) ≡ 0
+  count-end h = ap length (elements-end s at stop h)
+
+  module _ {e : Element} (q : e ≡ elementAt s at stop) where
+    pub count-broken : at < stop → e .good ≡ false → length (elements s at stop) ≡ 1
+    count-broken l g = ap length (elements-broken s at stop q l g)
+
+    pub count-turn : e .good ≡ true → length (elements s at stop) ≡ suc (length (elements s (e .stop) stop))
+    count-turn g = ap length (elements-turn s at stop q g)
+
+-- as many entries as elements
+length-map : {A B : Type 0} (f : A → B) (l : List A) → length (map f l) ≡ length l
+length-map f [] = refl
+length-map f (x ∷ l) = ap suc (length-map f l)
+
+pub entries-count : (s : List ℕ) (body msgref : Element) {updates : Element} {n : ℕ} → updates ≡ updatesIn s body msgref → n ≡ length (inside s updates)
+    → n ≡ length (entriesIn s body msgref)
+unfolding entriesIn
+entries-count s body msgref p q =
+    q ∙ ap (λ (e : Element). length (inside s e)) p ∙ sym (length-map (entryOf s) (inside s (updatesIn s body msgref)))

@@ -1,0 +1,54 @@
+-- `message::entry_names` meets its contract. Assumes nothing.
+use borrow.Author.Needs.{needs}
+use mathlib.Core.Path.{_≡_, refl, sym, ap, _∙_}
+use Prim.Native.Nat.{ℕ}
+use mathlib.Core.List.{List}
+use Rattle.octets.specs.Octets.{same}
+use Rattle.message.proofs.Aims.{entry-all, entry-single, entry-block}
+use Rattle.message.proofs.entry_names.Statement.{statement}
+use Rattle.message.proofs.entry_names.Tie as tie
+
+returns : tie.Need-returns
+returns c = sym (entry-all _ _ _ (c .if1 .taken))
+
+contents-requires : tie.Need-contents-requires
+contents-requires c κs = search needs
+
+equal-requires : tie.Need-equal-requires
+equal-requires c κs = search needs
+
+returns-2 : tie.Need-returns-2
+returns-2 c = c .equal .ensures ∙ ap (λ (o : List ℕ). same o (c .before .before .before .before .before .before .before .before .args .serial .now)) (c .before .contents .ensures) ∙ sym (entry-single _ _ _ (c .before .before .before .before .if1 .left) (c .before .before .if2 .taken))
+
+field-requires : tie.Need-field-requires
+field-requires c κs = search needs
+
+field-behind-requires : tie.Need-field-behind-requires
+field-behind-requires c κs = search needs
+
+contents-requires-2 : tie.Need-contents-requires-2
+contents-requires-2 c κs = search needs
+
+contents-requires-3 : tie.Need-contents-requires-3
+contents-requires-3 c κs = search needs
+
+block-names-requires : tie.Need-block-names-requires
+block-names-requires c κs = search needs
+
+returns-3 : tie.Need-returns-3
+returns-3 c = c .block-names .ensures ∙ sym (entry-block _ _ _ (c .before .before .before .before .before .before .before .if1 .left) (c .before .before .before .before .before .if2 .left) (c .before .before .before .before .field .ensures) (c .before .before .before .field-behind .ensures) (c .before .before .contents2 .ensures) (c .before .contents3 .ensures))
+
+pub entry-names-spec : {M : Type 1} → statement M
+entry-names-spec =
+    tie.close
+    (tie.spec
+    returns
+    contents-requires
+    equal-requires
+    returns-2
+    field-requires
+    field-behind-requires
+    contents-requires-2
+    contents-requires-3
+    block-names-requires
+    returns-3)

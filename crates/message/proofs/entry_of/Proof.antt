@@ -1,0 +1,28 @@
+-- `message::entry_of` meets its contract. Assumes nothing.
+use borrow.Author.Needs.{needs}
+use mathlib.Core.Path.{_≡_, refl, sym, ap, _∙_}
+use Rattle.message.proofs.Fields.{entry-add, entry-certificate, entry-remove, entry-change}
+use Rattle.message.proofs.entry_of.Statement.{statement}
+use Rattle.message.proofs.entry_of.Tie as tie
+
+element-at-requires : tie.Need-element-at-requires
+element-at-requires c κs = search needs
+
+field-requires : tie.Need-field-requires
+field-requires c κs = search needs
+
+returns : tie.Need-returns
+returns c = entry-add _ _ (c .before .before .before .before .if1 .taken) (c .before .before .before .element-at .ensures) (c .before .if2 .taken) (c .field .ensures)
+
+returns-2 : tie.Need-returns-2
+returns-2 c = entry-certificate _ _ (c .before .before .before .if1 .taken) (c .before .before .element-at .ensures) (c .if2 .left)
+
+returns-3 : tie.Need-returns-3
+returns-3 c = entry-remove _ _ (c .before .before .if1 .left) (c .if3 .taken)
+
+returns-4 : tie.Need-returns-4
+returns-4 c = entry-change _ _ (c .before .before .if1 .left) (c .if3 .left)
+
+pub entry-of-spec : {M : Type 1} → statement M
+entry-of-spec =
+    tie.close (tie.spec element-at-requires field-requires returns returns-2 returns-3 returns-4)

@@ -1,0 +1,78 @@
+-- `message::is_among` meets its contract. The loop's invariant: the search from here finds what the whole search finds. Assumes nothing.
+use mathlib.Core.Path.{_≡_, refl, sym, ap, _∙_}
+use Prim.Native.Nat.{_+_, _-_, _≤_, _<_}
+use native.Mathlib.Omega.{arith}
+use lib.ListN.{length, drop}
+use Rattle.octets.specs.Octets.{same, member}
+use Rattle.message.specs.Names.{namesIn}
+use Rattle.message.proofs.Names.{among-end, among-found, among-turn}
+use borrow.Author.Needs.{needs}
+use Rattle.message.proofs.is_among.Statement.{statement}
+use Rattle.message.proofs.is_among.Tie as tie
+
+abbrev Inv-loop : tie.InvT-loop
+Inv-loop o names i₀ i = (member o (namesIn (drop i names)) ≡ member o (namesIn names)) × (i ≤ length names)
+
+abbrev μ-loop : tie.MeasureT-loop
+μ-loop o names i₀ i = length names - i
+
+loop-holds : tie.Need-loop-holds Inv-loop μ-loop
+loop-holds c = (refl, omega arith)
+
+add-at : tie.Need-add-at Inv-loop μ-loop
+add-at c = search needs
+
+shared-slice-read-wide : tie.Need-shared-slice-read-wide Inv-loop μ-loop
+shared-slice-read-wide c = search needs
+
+wide-requires : tie.Need-wide-requires Inv-loop μ-loop
+wide-requires c κs = search needs
+
+end-of-requires : tie.Need-end-of-requires Inv-loop μ-loop
+end-of-requires c κs = search needs
+
+part-requires : tie.Need-part-requires Inv-loop μ-loop
+part-requires c κs = search needs
+
+equal-requires : tie.Need-equal-requires Inv-loop μ-loop
+equal-requires c κs = search needs
+
+returns : tie.Need-returns Inv-loop μ-loop
+returns c =
+    let a = c .before .before .before .before .before .before .before .before .before .before .args in
+    sym (among-found (a .o .now) (a .names .now) (c .before .before .before .before .before .before .before .loop .i) (c .before .before .before .before .before .before .loop-test .taken) (c .before .before .before .before .wide .ensures) (c .before .before .before .end-of .ensures)
+    (ap (same (a .o .now)) (sym (c .before .before .part .ensures)) ∙ sym (c .before .equal .ensures) ∙ c .if1 .taken))
+    ∙ c .before .before .before .before .before .before .before .loop .inv .0
+
+loop-less : tie.Need-loop-less Inv-loop μ-loop
+loop-less c = omega (arith, c .before .before .before .end-of .ensures)
+
+loop-again : tie.Need-loop-again Inv-loop μ-loop
+loop-again c =
+    let a = c .before .before .before .before .before .before .before .before .before .before .args in (
+      sym (among-turn (a .o .now) (a .names .now) (c .before .before .before .before .before .before .before .loop .i) (c .before .before .before .before .before .before .loop-test .taken) (c .before .before .before .before .wide .ensures) (c .before .before .before .end-of .ensures)
+          (ap (same (a .o .now)) (sym (c .before .before .part .ensures)) ∙ sym (c .before .equal .ensures) ∙ c .if1 .left))
+          ∙ c .before .before .before .before .before .before .before .loop .inv .0,
+      omega (arith, c .before .before .before .end-of .ensures),
+    )
+
+returns-2 : tie.Need-returns-2 Inv-loop μ-loop
+returns-2 c = sym (among-end _ _ _ (c .loop-test .left)) ∙ c .before .loop .inv .0
+
+pub is-among-spec : {M : Type 1} → statement M
+is-among-spec =
+    tie.close
+    (tie.spec
+    Inv-loop
+    μ-loop
+    loop-holds
+    add-at
+    shared-slice-read-wide
+    wide-requires
+    end-of-requires
+    part-requires
+    equal-requires
+    returns
+    loop-less
+    loop-again
+    returns-2)

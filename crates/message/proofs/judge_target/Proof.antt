@@ -1,0 +1,25 @@
+-- `message::judge_target` meets its contract. Assumes nothing.
+use borrow.Author.Needs.{needs}
+use mathlib.Core.Path.{_≡_, refl, sym, ap, _∙_}
+use Rattle.message.proofs.Aims.{target-uri, target-other, target-named, target-elsewhere}
+use Rattle.message.proofs.judge_target.Statement.{statement}
+use Rattle.message.proofs.judge_target.Tie as tie
+
+returns : tie.Need-returns
+returns c = sym (target-uri _ _ _ _ _ (c .if1 .taken))
+
+returns-2 : tie.Need-returns-2
+returns-2 c = sym (target-other _ _ _ _ _ (c .before .before .if1 .left) (c .if2 .taken))
+
+names-device-requires : tie.Need-names-device-requires
+names-device-requires c κs = search needs
+
+returns-3 : tie.Need-returns-3
+returns-3 c = sym (target-named _ _ _ _ _ (c .before .before .before .before .if1 .left) (c .before .before .if2 .left) (sym (c .before .names-device .ensures) ∙ c .if3 .taken))
+
+returns-4 : tie.Need-returns-4
+returns-4 c = sym (target-elsewhere _ _ _ _ _ (c .before .before .before .before .if1 .left) (c .before .before .if2 .left) (sym (c .before .names-device .ensures) ∙ c .if3 .left))
+
+pub judge-target-spec : {M : Type 1} → statement M
+judge-target-spec =
+    tie.close (tie.spec returns returns-2 names-device-requires returns-3 returns-4)

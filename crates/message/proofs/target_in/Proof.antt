@@ -1,0 +1,16 @@
+-- `message::target_in` meets its contract. Assumes nothing.
+use borrow.Author.Needs.{needs}
+use mathlib.Core.Path.{_≡_, refl, sym, ap, _∙_}
+use Rattle.message.specs.Fields.{targetIn}
+use Rattle.message.proofs.target_in.Statement.{statement}
+use Rattle.message.proofs.target_in.Tie as tie
+
+element-at-requires : tie.Need-element-at-requires
+element-at-requires c κs = search needs
+
+returns : tie.Need-returns
+unfolding targetIn
+returns c = c .element-at .ensures
+
+pub target-in-spec : {M : Type 1} → statement M
+target-in-spec = tie.close (tie.spec element-at-requires returns)

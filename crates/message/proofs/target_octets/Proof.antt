@@ -1,0 +1,18 @@
+-- `message::target_octets` meets its contract. Assumes nothing.
+use borrow.Author.Needs.{needs}
+use mathlib.Core.Path.{_≡_, refl, sym, ap, _∙_}
+use Rattle.der.specs.Element.{whole}
+use Rattle.message.proofs.target_octets.Statement.{statement}
+use Rattle.message.proofs.target_octets.Tie as tie
+
+target-in-requires : tie.Need-target-in-requires
+target-in-requires c κs = search needs
+
+whole-requires : tie.Need-whole-requires
+whole-requires c κs = search needs
+
+returns : tie.Need-returns
+returns c = c .whole .ensures ∙ ap (whole _) (c .before .target-in .ensures)
+
+pub target-octets-spec : {M : Type 1} → statement M
+target-octets-spec = tie.close (tie.spec target-in-requires whole-requires returns)

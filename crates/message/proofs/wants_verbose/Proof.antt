@@ -1,0 +1,22 @@
+-- `message::wants_verbose` meets its contract. Assumes nothing.
+use borrow.Author.Needs.{needs}
+use mathlib.Core.Path.{_≡_, refl, sym, ap, _∙_}
+use borrow.Author.Tests.{not-true, not-false}
+use Rattle.message.proofs.Rows.{verbose-never, verbose-unless}
+use Rattle.message.proofs.wants_verbose.Statement.{statement}
+use Rattle.message.proofs.wants_verbose.Tie as tie
+
+asks-form-requires : tie.Need-asks-form-requires
+asks-form-requires c κs = search needs
+
+returns : tie.Need-returns
+returns c = sym (verbose-never _ _ _ (sym (c .before .asks-form .ensures) ∙ not-true _ (c .if1 .taken)))
+
+field-requires : tie.Need-field-requires
+field-requires c κs = search needs
+
+returns-2 : tie.Need-returns-2
+returns-2 c = sym (verbose-unless _ _ _ (sym (c .before .before .before .asks-form .ensures) ∙ not-false _ (c .before .before .if1 .left)) (c .before .field .ensures))
+
+pub wants-verbose-spec : {M : Type 1} → statement M
+wants-verbose-spec = tie.close (tie.spec asks-form-requires returns field-requires returns-2)

@@ -1,0 +1,83 @@
+-- The theorem of demand 3 (specs/Demand3), from the law of each step (Steps) and of the next store (WellFormed).
+use Prim.Native.Nat.{ℕ}
+use mathlib.Core.Bool.{true, false}
+use mathlib.Core.List.{List, [], _∷_, map}
+use mathlib.Core.Option.{some}
+use mathlib.Core.Path.{_≡_, refl, sym, _∙_, ap, subst}
+use Rattle.octets.specs.declared.Status.{Status}
+use Rattle.rights.specs.Rights.{Rights, Content, authorises}
+use Rattle.anchor.specs.Info.{rightsOf}
+use Rattle.store.specs.Store.{Store}
+use Rattle.store.specs.Image.{encodeAnchor, encode, wellFormed}
+use Rattle.store.specs.Records.{recordsOf}
+use Rattle.store.proofs.RoundTrip.{decode-encode, encode-decode, decode-wellFormed}
+use Rattle.protocol.specs.Acceptance.{rightsAt}
+use Rattle.protocol.specs.Effect.{effect}
+use Rattle.protocol.specs.Call.{Outcome, refused, answered}
+use Rattle.protocol.specs.Demand3.{Given, outcome, leftBy, after, signerOf, signerIn, acceptedSigner, Unauthorised, authorising, Demand3}
+use Rattle.protocol.proofs.Lists.{keep-map}
+use Rattle.protocol.proofs.Records.{info-of-record, records-encode}
+use Rattle.protocol.proofs.Steps.{may, holders, holders-effect}
+use Rattle.protocol.proofs.Answer.{by-answer}
+use Rattle.protocol.proofs.WellFormed.{effect-wellFormed}
+
+-- what a call leaves: the image of a well-formed store in which the same anchors authorise the content
+pub record Left (content : Content) (σ : Store) (next : List ℕ) : Type 0 where
+  pub store : Store
+  pub image : next ≡ encode store
+  pub good : wellFormed store ≡ true
+  pub kept : holders content store ≡ holders content σ
+
+-- the records of an image that authorise the content are those of the anchors that do
+records-of-holders : (content : Content) (σ : Store) → wellFormed σ ≡ true → authorising content (recordsOf (encode σ)) ≡ map encodeAnchor (holders content σ)
+unfolding authorising
+records-of-holders content σ w =
+    ap (authorising content) (records-encode σ w)
+    ∙ ap (λ r. encodeAnchor (σ .apex) ∷ r)
+    (keep-map _ (may content) encodeAnchor (λ a. ap (λ t. authorises (rightsOf t) content) (info-of-record a)) (σ .others))
+
+module _ (content : Content) (σ : Store) (w : wellFormed σ ≡ true) (g : Given)
+    (u : (rights : Rights) → acceptedSigner (encode σ) g ≡ some rights → authorises rights content ≡ false) where
+  left-same : (next : List ℕ) → next ≡ encode σ → Left content σ next
+  left-same next e = record { store = σ; image = e; good = w; kept = refl }
+
+  left-answered : (status : Status) (reply next : List ℕ) → outcome (encode σ) g ≡ answered status reply next → Left content σ next
+  unfolding signerIn signerOf
+  left-answered status reply next e =
+      let d = decode-encode σ w in
+      by-answer (g .message) (encode σ) (g .verdict) (g .replyLent) (g .nextLent) σ d e (left-same next)
+      (λ q i j n.
+      record {
+        store = effect (g .message) q i σ .store;
+        image = n;
+        good = effect-wellFormed σ (g .message) (g .verdict) q i w (g .octets) j;
+        kept = holders-effect content (g .message) q i σ (u (rightsAt σ i) (rw (d, e, j)));
+      })
+
+  left-by : Left content σ (leftBy (encode σ) (outcome (encode σ) g))
+  unfolding leftBy
+  left-by = go (outcome (encode σ) g) refl
+    where
+      go : (r : Outcome) → outcome (encode σ) g ≡ r → Left content σ (leftBy (encode σ) r)
+      go (refused n) e = left-same (encode σ) refl
+      go (answered status reply next) e = left-answered status reply next e
+
+-- over the list of calls
+over-calls : (content : Content) (calls : List Given) (σ : Store) → wellFormed σ ≡ true → Unauthorised content (encode σ) calls
+    → authorising content (recordsOf (after (encode σ) calls)) ≡ map encodeAnchor (holders content σ)
+unfolding after
+over-calls content [] σ w u = records-of-holders content σ w
+over-calls content (g ∷ gs) σ w u =
+    let l = left-by content σ w g (u .0) in
+    ap (λ image. authorising content (recordsOf (after image gs))) (l .image)
+    ∙ over-calls content gs (l .store) (l .good) (subst (λ image. Unauthorised content image gs) (l .image) (u .1))
+    ∙ ap (map encodeAnchor) (l .kept)
+
+pub demand3 : Demand3
+demand3 image σ o d content calls u =
+    let e = encode-decode image σ o d in
+    let w = decode-wellFormed image σ d in
+    let whole : authorising content (recordsOf (after (encode σ) calls)) ≡ authorising content (recordsOf (encode σ)) =
+    over-calls content calls σ w (rw (← e) at u) ∙ sym (records-of-holders content σ w)
+    in
+    rw e at whole

@@ -1,0 +1,11 @@
+pub mod Computed
+pub mod Examples
+pub mod Lists
+pub mod Steps
+pub mod Answer
+pub mod Statuses
+pub mod WellFormed
+pub mod Records
+pub mod Demand3
+pub mod NotEmpty
+pub mod Demand2

@@ -1,0 +1,98 @@
+-- 01, After acceptance: what an accepted message does to the store, and its reply.
+use Prim.Native.Nat.{ℕ, zero, suc}
+use mathlib.Core.Bool.{Bool, true, false}
+use mathlib.Core.List.{List, [], _∷_, _++_}
+use lib.ListN.{length}
+use lib.Dec.{ltb}
+use Rattle.octets.specs.declared.Status.{Status}
+use Rattle.octets.specs.Status.{success, insufficientMemory}
+use Rattle.octets.specs.Limits.{maxUpdates}
+use Rattle.der.specs.declared.Element.{Element}
+use Rattle.der.specs.Element.{whole, contents}
+use Rattle.syntax.specs.declared.TampType.{TampType}
+use Rattle.syntax.specs.declared.TampType.the-variants.{StatusQuery, Update, CommunityUpdate, SeqNumAdjust}
+use Rattle.store.specs.Store.{Anchor, Store, identifiers}
+use Rattle.message.specs.declared.Request.{Request}
+use Rattle.message.specs.declared.Entry.{Entry}
+use Rattle.message.specs.Fields.{seqNumIn, updatesIn, entriesIn, seqNumbersIn, removeIn, oidsIn, additionsIn}
+use Rattle.reply.specs.Replies.{tampError, statusResponse, updateConfirm, communityConfirm, adjustConfirm}
+use Rattle.rights.specs.Rights.{Rights}
+use Rattle.protocol.specs.Acceptance.{rightsAt}
+use Rattle.protocol.specs.Update.{steps, numbered, allStamped}
+use Rattle.protocol.specs.Community.{communityStatus, communitiesAfter}
+
+-- the status of the call, its reply, and the next store
+pub record Effect : Type 0 where
+  pub status : Status
+  pub reply : List ℕ
+  pub store : Store
+
+-- an anchor's number set, by position
+unfoldable pub numberSet : ℕ → ℕ → List Anchor → List Anchor
+numberSet i n [] = []
+numberSet zero n (a ∷ l) = numbered n a ∷ l
+numberSet (suc i) n (a ∷ l) = a ∷ numberSet i n l
+
+-- "A message past 21 is accepted, and its number becomes the signer's."
+unfoldable pub withNumber : ℕ → ℕ → Store → Store
+withNumber zero n σ = record { device = σ .device; apex = numbered n (σ .apex); others = σ .others; communities = σ .communities }
+withNumber (suc i) n σ = record { device = σ .device; apex = σ .apex; others = numberSet i n (σ .others); communities = σ .communities }
+
+abbrev pub withOthers : List Anchor → Store → Store
+withOthers l σ = record { device = σ .device; apex = σ .apex; others = l; communities = σ .communities }
+
+abbrev pub withCommunities : List (List ℕ) → Store → Store
+withCommunities l σ = record { device = σ .device; apex = σ .apex; others = σ .others; communities = l }
+
+-- Update. σ has the signer's number already; the rights are the signer's at acceptance. Over 16 entries: 17 for the message as a whole, by TAMP Error, and the number still moves.
+unfoldable pub updateEffect : List ℕ → Request → Rights → Store → Effect
+updateEffect s q rights σ =
+    let entries = entriesIn s (q .body) (q .msgref) in
+    let done = steps s rights (σ .apex) (σ .others) [] entries in
+    elim (ltb maxUpdates (length entries)) [
+      | true ↦
+          record {
+            status = insufficientMemory;
+            reply = tampError (contents s (q .msgtype)) insufficientMemory (whole s (q .msgref));
+            store = σ;
+          }
+      | false ↦
+          record {
+            status = success;
+            reply = updateConfirm (whole s (q .msgref)) (done .statuses);
+            store = withOthers (done .old ++ allStamped (seqNumbersIn s (q .body)) (done .new)) σ;
+          }
+    ]
+
+-- Community Update: "call and confirm carry the code"
+unfoldable pub communityEffect : List ℕ → Request → Store → Effect
+communityEffect s q σ =
+    let updates = updatesIn s (q .body) (q .msgref) in
+    let remove = removeIn s updates in
+    let removals = oidsIn s remove in
+    let additions = additionsIn s updates in
+    let status = communityStatus (remove .good) removals additions (σ .communities) in
+    record {
+      status = status;
+      reply = communityConfirm (whole s (q .msgref)) status;
+      store = withCommunities (communitiesAfter (remove .good) removals additions (σ .communities)) σ;
+    }
+
+-- Query: "identifiers in store order, then communities unless there are none"
+unfoldable pub queryEffect : List ℕ → Request → Store → Effect
+queryEffect s q σ =
+    record { status = success; reply = statusResponse (whole s (q .msgref)) (identifiers σ) (σ .communities); store = σ }
+
+-- Adjust: 0
+unfoldable pub adjustEffect : List ℕ → Request → Store → Effect
+adjustEffect s q σ = record { status = success; reply = adjustConfirm (whole s (q .msgref)); store = σ }
+
+unfoldable pub effectOf : TampType → List ℕ → Request → Rights → Store → Effect
+effectOf StatusQuery s q rights σ = queryEffect s q σ
+effectOf Update s q rights σ = updateEffect s q rights σ
+effectOf CommunityUpdate s q rights σ = communityEffect s q σ
+effectOf SeqNumAdjust s q rights σ = adjustEffect s q σ
+
+-- what a message s accepted as request q of the anchor at position i does
+unfoldable pub effect : List ℕ → Request → ℕ → Store → Effect
+effect s q i σ = effectOf (q .kind) s q (rightsAt σ i) (withNumber i (seqNumIn s (q .msgref)) σ)

@@ -1,0 +1,66 @@
+-- `rights::fresh_type` meets its contract. The loop's invariant: all before n are listed. Assumes nothing.
+use Prim.Native.Nat.{_-_, _≤_}
+use native.Mathlib.Omega.{arith}
+use borrow.Author.Needs.{needs}
+use Rattle.rights.specs.Constraints.{constraintsRights}
+use Rattle.rights.specs.Decision.{oid, fresh, listedTypes}
+use Rattle.rights.proofs.Values.{type-more, type-fresh, type-last}
+use Rattle.rights.proofs.fresh_type.Statement.{statement}
+use Rattle.rights.proofs.fresh_type.Tie as tie
+
+abbrev Inv-loop : tie.InvT-loop
+Inv-loop signer new n₀ n = (n ≤ fresh oid (listedTypes (constraintsRights signer) (constraintsRights new))) × (n ≤ 256)
+
+abbrev μ-loop : tie.MeasureT-loop
+μ-loop signer new n₀ n = 256 - n
+
+loop-holds : tie.Need-loop-holds Inv-loop μ-loop
+loop-holds c = omega arith
+
+cast-t6 : tie.Need-cast-t6 Inv-loop μ-loop
+cast-t6 c = search needs
+
+slice-aggregate-is-listed-type : tie.Need-slice-aggregate-is-listed-type Inv-loop μ-loop
+slice-aggregate-is-listed-type c = search needs
+
+is-listed-type-requires : tie.Need-is-listed-type-requires Inv-loop μ-loop
+is-listed-type-requires c κs = search needs
+
+returns : tie.Need-returns Inv-loop μ-loop
+unfolding oid
+returns c = search (type-fresh, needs)
+
+add-n : tie.Need-add-n Inv-loop μ-loop
+add-n c = search needs
+
+loop-less : tie.Need-loop-less Inv-loop μ-loop
+loop-less c = omega arith
+
+loop-again : tie.Need-loop-again Inv-loop μ-loop
+unfolding oid
+loop-again c = search (type-more, needs)
+
+returns-2 : tie.Need-returns-2 Inv-loop μ-loop
+returns-2 c =
+    type-last _ _
+    (λ i. omega (arith, c .before .before .before .shared-slice-known .given i))
+    (λ i. omega (arith, c .before .before .shared-slice-known2 .given i))
+    _
+    (c .before .loop .inv .0)
+    (omega arith)
+
+pub fresh-type-spec : {M : Type 1} → statement M
+fresh-type-spec =
+    tie.close
+    (tie.spec
+    Inv-loop
+    μ-loop
+    loop-holds
+    cast-t6
+    slice-aggregate-is-listed-type
+    is-listed-type-requires
+    returns
+    add-n
+    loop-less
+    loop-again
+    returns-2)

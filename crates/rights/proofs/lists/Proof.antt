@@ -1,0 +1,64 @@
+-- `rights::lists` meets its contract. The loop's invariant: the value is among those from here on exactly if it is among all. Assumes nothing.
+use Prim.Native.Nat.{_-_}
+use borrow.Author.Needs.{needs}
+use mathlib.Core.Path.{_≡_, refl}
+use Rattle.octets.specs.Octets.{member}
+use Rattle.der.specs.Element.{elements}
+use Rattle.rights.specs.Places.{valuesOf}
+use Rattle.rights.proofs.Run.{shorter}
+use Rattle.rights.proofs.Values.{value-here, value-later, value-end}
+use Rattle.rights.proofs.lists.Statement.{statement}
+use Rattle.rights.proofs.lists.Tie as tie
+
+abbrev Inv-loop : tie.InvT-loop
+Inv-loop v value stop i₀ i = member value (valuesOf v (elements v i stop)) ≡ member value (valuesOf v (elements v i₀ stop))
+
+abbrev μ-loop : tie.MeasureT-loop
+μ-loop v value stop i₀ i = stop - i
+
+field-requires : tie.Need-field-requires Inv-loop μ-loop
+field-requires c κs = search needs
+
+loop-holds : tie.Need-loop-holds Inv-loop μ-loop
+loop-holds c = refl
+
+element-at-requires : tie.Need-element-at-requires Inv-loop μ-loop
+element-at-requires c κs = search needs
+
+whole-requires : tie.Need-whole-requires Inv-loop μ-loop
+whole-requires c κs = search needs
+
+equal-requires : tie.Need-equal-requires Inv-loop μ-loop
+equal-requires c κs = search needs
+
+returns : tie.Need-returns Inv-loop μ-loop
+returns c = search (value-here, needs)
+
+behind-requires : tie.Need-behind-requires Inv-loop μ-loop
+behind-requires c κs = search needs
+
+loop-less : tie.Need-loop-less Inv-loop μ-loop
+loop-less c = search (shorter, needs)
+
+loop-again : tie.Need-loop-again Inv-loop μ-loop
+loop-again c = search (value-later, needs)
+
+returns-2 : tie.Need-returns-2 Inv-loop μ-loop
+returns-2 c = search (value-end, needs)
+
+pub lists-spec : {M : Type 1} → statement M
+lists-spec =
+    tie.close
+    (tie.spec
+    Inv-loop
+    μ-loop
+    field-requires
+    loop-holds
+    element-at-requires
+    whole-requires
+    equal-requires
+    returns
+    behind-requires
+    loop-less
+    loop-again
+    returns-2)

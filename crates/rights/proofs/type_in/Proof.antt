@@ -1,0 +1,17 @@
+-- `rights::type_in` meets its contract. Assumes nothing.
+use borrow.Author.Needs.{needs}
+use Rattle.rights.proofs.Places.{type-found}
+use Rattle.rights.proofs.type_in.Statement.{statement}
+use Rattle.rights.proofs.type_in.Tie as tie
+
+field-requires : tie.Need-field-requires
+field-requires c κs = search needs
+
+contents-requires : tie.Need-contents-requires
+contents-requires c κs = search needs
+
+returns : tie.Need-returns
+returns c = search (type-found, needs)
+
+pub type-in-spec : {M : Type 1} → statement M
+type-in-spec = tie.close (tie.spec field-requires contents-requires returns)

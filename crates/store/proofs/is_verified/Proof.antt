@@ -1,0 +1,16 @@
+-- `store::is_verified` meets its contract. Assumes nothing.
+use borrow.Author.Needs.{needs}
+use mathlib.Core.Path.{ap}
+use Prim.Native.Nat.{ℕ}
+use lib.Dec.{eqb}
+use Rattle.store.proofs.is_verified.Statement.{statement}
+use Rattle.store.proofs.is_verified.Tie as tie
+
+octet-at-requires : tie.Need-octet-at-requires
+octet-at-requires c κs = search needs
+
+returns : tie.Need-returns
+returns c = ap (λ (n : ℕ). eqb n 1) (c .octet-at .ensures .0)
+
+pub is-verified-spec : {M : Type 1} → statement M
+is-verified-spec = tie.close (tie.spec octet-at-requires returns)

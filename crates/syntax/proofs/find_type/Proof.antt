@@ -1,0 +1,79 @@
+-- `syntax::find_type` meets its contract. The invariant: the rows from k on give the answer. Assumes nothing.
+use Prim.Native.Nat.{_-_, _≤_}
+use native.Mathlib.Omega.{arith}
+use mathlib.Core.Path.{_≡_, sym, ap, _∙_}
+use lib.ListN.{drop}
+use borrow.Author.Needs.{needs}
+use Rattle.syntax.specs.declared.Recognised.the-variants.{Tamp}
+use Rattle.syntax.specs.Types.{tampTypes, rowOf, recognised}
+use Rattle.syntax.specs.TypeTable.{typeRows}
+use Rattle.syntax.proofs.TypeTable.{types-compared, types-start, types-here, types-next, types-end}
+use Rattle.syntax.proofs.find_type.Statement.{statement}
+use Rattle.syntax.proofs.find_type.Tie as tie
+
+abbrev Inv-loop : tie.InvT-loop
+Inv-loop types o k₀ k = (k ≤ typeRows) × (rowOf (drop k tampTypes) o ≡ recognised o)
+
+abbrev μ-loop : tie.MeasureT-loop
+μ-loop types o k₀ k = typeRows - k
+
+loop-holds : tie.Need-loop-holds Inv-loop μ-loop
+loop-holds c = (omega arith, types-start _)
+
+mul-part : tie.Need-mul-part Inv-loop μ-loop
+mul-part c = omega arith
+
+mul-part-2 : tie.Need-mul-part-2 Inv-loop μ-loop
+mul-part-2 c = omega arith
+
+add-part : tie.Need-add-part Inv-loop μ-loop
+add-part c = omega arith
+
+part-requires : tie.Need-part-requires Inv-loop μ-loop
+part-requires c κs = search needs
+
+equal-requires : tie.Need-equal-requires Inv-loop μ-loop
+equal-requires c κs = search needs
+
+type-at-requires : tie.Need-type-at-requires Inv-loop μ-loop
+type-at-requires c κs = search needs
+
+returns : tie.Need-returns Inv-loop μ-loop
+returns c =
+    let l = c .before .before .before .before .before .loop in
+    let e = types-compared _ (l .k) (c .before .before .before .before .before .before .before .before .pre) (c .before .before .before .part .ensures) (c .before .before .equal .ensures) in
+    ap Tamp (c .type-at .ensures) ∙ sym (types-here _ (l .k) (c .before .before .before .before .loop-test .taken) (sym e ∙ c .before .if1 .taken)) ∙ l .inv .1
+
+add-k : tie.Need-add-k Inv-loop μ-loop
+add-k c = omega arith
+
+loop-less : tie.Need-loop-less Inv-loop μ-loop
+loop-less c = omega arith
+
+loop-again : tie.Need-loop-again Inv-loop μ-loop
+loop-again c =
+    let l = c .before .before .before .before .loop in
+    let e = types-compared _ (l .k) (c .before .before .before .before .before .before .before .pre) (c .before .before .part .ensures) (c .before .equal .ensures) in
+    (omega arith, sym (types-next _ (l .k) (c .before .before .before .loop-test .taken) (sym e ∙ c .if1 .left)) ∙ l .inv .1)
+
+returns-2 : tie.Need-returns-2 Inv-loop μ-loop
+returns-2 c = sym (types-end _ _ (c .loop-test .left)) ∙ c .before .loop .inv .1
+
+pub find-type-spec : {M : Type 1} → statement M
+find-type-spec =
+    tie.close
+    (tie.spec
+    Inv-loop
+    μ-loop
+    loop-holds
+    mul-part
+    mul-part-2
+    add-part
+    part-requires
+    equal-requires
+    type-at-requires
+    returns
+    add-k
+    loop-less
+    loop-again
+    returns-2)

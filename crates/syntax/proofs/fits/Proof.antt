@@ -1,0 +1,36 @@
+-- `syntax::fits` meets its contract: the form's row stands for its syntax. Assumes nothing.
+use mathlib.Core.Path.{refl}
+use Rattle.octets.specs.Number.{digits}
+use Rattle.der.specs.Oid.{oid, arc, arcs}
+use Rattle.syntax.specs.Table.{rows}
+use Rattle.syntax.proofs.Ties.{form-is, form-in}
+use borrow.Author.Needs.{needs}
+use Rattle.syntax.proofs.fits.Statement.{statement}
+use Rattle.syntax.proofs.fits.Tie as tie
+
+form-row-requires : tie.Need-form-row-requires
+form-row-requires c κs = search needs
+
+slice-aggregate-fit-row : tie.Need-slice-aggregate-fit-row
+slice-aggregate-fit-row c = search needs
+
+slice-aggregate-fit-row-2 : tie.Need-slice-aggregate-fit-row-2
+slice-aggregate-fit-row-2 c = search needs
+
+fit-row-requires : tie.Need-fit-row-requires
+unfolding rows
+fit-row-requires c κs = (refl, rw (c .before .before .form-row .ensures) (form-in (c .before .before .before .before .args .form)))
+
+returns : tie.Need-returns
+unfolding oid arc arcs digits
+returns c = rw (← form-is (c .before .before .before .before .before .args .form), ← c .before .before .before .form-row .ensures) (c .fit-row .ensures)
+
+pub fits-spec : {M : Type 1} → statement M
+fits-spec =
+    tie.close
+    (tie.spec
+    form-row-requires
+    slice-aggregate-fit-row
+    slice-aggregate-fit-row-2
+    fit-row-requires
+    returns)

@@ -1,0 +1,19 @@
+-- `syntax::recognise` meets its contract: the constant is the table of the definitions. Assumes nothing.
+use mathlib.Core.Path.{refl}
+use Rattle.syntax.specs.TypeTable.{typeTable}
+use borrow.Author.Needs.{needs}
+use Rattle.syntax.proofs.recognise.Statement.{statement}
+use Rattle.syntax.proofs.recognise.Tie as tie
+
+slice-aggregate-find-type : tie.Need-slice-aggregate-find-type
+slice-aggregate-find-type c = search needs
+
+find-type-requires : tie.Need-find-type-requires
+unfolding typeTable
+find-type-requires c κs = refl
+
+returns : tie.Need-returns
+returns c = search needs
+
+pub recognise-spec : {M : Type 1} → statement M
+recognise-spec = tie.close (tie.spec slice-aggregate-find-type find-type-requires returns)

@@ -1,9 +1,0 @@
-pub mod Computed
-pub mod Examples
-pub mod Lists
-pub mod Steps
-pub mod Answer
-pub mod WellFormed
-pub mod Records
-pub mod Demand3
-pub mod NotEmpty

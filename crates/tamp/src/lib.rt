@@ -1,1 +1,0 @@
-// The call: from message, image and verdict to reply and next store.

@@ -1,0 +1,121 @@
+#!/usr/bin/python3
+"""Input and expected output of the program rights_cases.
+
+    tools/rights_cases.py                  writes crates/rights_cases/stdin and stdout: P1 to P10 of document 01, on TrustAnchorInfo
+                                           octets that Debian's python3-pyasn1-modules encodes (rfc5914, rfc6010)
+    tools/rights_cases.py FILE PROGRAM     runs PROGRAM (the built rights_cases) on the cases of a rights.jsonl file and compares
+
+A case is one octet W or A, one octet that says whether the (signing) anchor is the apex, and for
+    W   signer and new anchor, each a 2-octet length and a TrustAnchorInfo; answered 'within' or 'not'
+    A   one octet role (0 source, 1 carrier), the anchor, the content type (OID contents) and the attributes (an element that holds
+        Attributes), each after a 2-octet length; answered 'authorised' or 'not'
+"""
+import json
+import os
+import subprocess
+import sys
+
+
+def frame(octets):
+    return len(octets).to_bytes(2, 'big') + octets
+
+
+def within_case(apex, signer, new):
+    return b'W' + bytes([apex]) + frame(signer) + frame(new)
+
+
+def element(tag, contents):
+    n = len(contents)
+    size = bytes([n]) if n < 128 else bytes([0x81, n]) if n < 256 else b'\x82' + n.to_bytes(2, 'big')
+    return bytes([tag]) + size + contents
+
+
+def authorises_case(apex, carrier, anchor, content_type, pairs):
+    attributes = b''.join(element(0x30, element(0x06, t) + element(0x31, v)) for t, v in pairs)
+    return b'A' + bytes([apex, carrier]) + frame(anchor) + frame(content_type) + frame(element(0xA0, attributes))
+
+
+def paper():
+    from pyasn1.codec.der.encoder import encode
+    from pyasn1.type import univ
+    from pyasn1_modules import rfc5280, rfc5914, rfc6010
+
+    def anchor(key, entries):
+        info = rfc5914.TrustAnchorInfo()
+        info['pubKey']['algorithm']['algorithm'] = univ.ObjectIdentifier('1.3.101.112')
+        info['pubKey']['subjectPublicKey'] = univ.BitString(hexValue='%02X' % key)
+        info['keyId'] = bytes([key])
+        if entries is not None:
+            constraints = rfc6010.CMSContentConstraints()
+            for oid, can_source, limits in entries:
+                entry = rfc6010.ContentTypeConstraint()
+                entry['contentType'] = univ.ObjectIdentifier(oid)
+                if not can_source:
+                    entry['canSource'] = 'cannotSource'
+                for attribute, values in limits:
+                    constraint = rfc6010.AttrConstraint()
+                    constraint['attrType'] = univ.ObjectIdentifier(attribute)
+                    for value in values:
+                        constraint['attrValues'].append(encode(univ.Integer(value)))
+                    entry['attrConstraints'].append(constraint)
+                constraints.append(entry)
+            extension = rfc5280.Extension()
+            extension['extnID'] = rfc6010.id_pe_cmsContentConstraints
+            extension['extnValue'] = encode(constraints)
+            info['exts'].append(extension)
+        return encode(info)
+
+    t, a = '1.2.100.1', '1.2.200.1'
+    anything = str(rfc6010.id_ct_anyContentType)
+    free, only_1, one_two, one_three = (t, True, []), (t, True, [(a, [1])]), (t, True, [(a, [1, 2])]), (t, True, [(a, [1, 3])])
+    carrier, every = (t, False, []), (anything, True, [])
+    cases = [
+        ([free], [free], True),
+        ([carrier], [free], False),
+        ([every], [only_1], True),
+        ([every, only_1], [every], False),
+        ([every, free], [every], True),
+        ([one_two], [only_1], True),
+        ([one_two], [one_three], False),
+        ([one_two], [free], False),
+        ([one_two], None, True),
+        (None, [free], False),
+    ]
+    given = b''.join(within_case(0, anchor(1, s), anchor(2, n)) for s, n, _ in cases)
+    expected = ''.join('within\n' if w else 'not\n' for _, _, w in cases)
+    return given, expected
+
+
+def from_file(path):
+    given, expected, names = b'', [], []
+    for line in open(path):
+        case = json.loads(line)
+        names.append(case['name'])
+        if 'new' in case:
+            given += within_case(case['signer_is_apex'], bytes.fromhex(case['signer']), bytes.fromhex(case['new']))
+            expected.append('within' if case['within'] else 'not')
+        else:
+            pairs = [(bytes.fromhex(t), bytes.fromhex(v)) for t, v in case['pairs']]
+            given += authorises_case(case['is_apex'], case['role'] == 'carrier', bytes.fromhex(case['anchor']),
+                                     bytes.fromhex(case['type']), pairs)
+            expected.append('authorised' if case['authorises'] else 'not')
+    return given, expected, names
+
+
+def main():
+    if len(sys.argv) == 1:
+        given, expected = paper()
+        folder = os.path.join(os.path.dirname(os.path.abspath(__file__)), '..', 'crates', 'rights_cases')
+        open(os.path.join(folder, 'stdin'), 'wb').write(given)
+        open(os.path.join(folder, 'stdout'), 'w').write(expected)
+        return
+    given, expected, names = from_file(sys.argv[1])
+    got = subprocess.run([sys.argv[2]], input=given, stdout=subprocess.PIPE, check=True).stdout.decode().split('\n')[:-1]
+    wrong = [n for n, e, g in zip(names, expected, got) if e != g]
+    print('%d of %d agree' % (len(names) - len(wrong) - abs(len(got) - len(names)), len(names)))
+    for name in wrong:
+        print('differs:', name)
+    sys.exit(bool(wrong) or len(got) != len(names))
+
+
+main()
