@@ -1,7 +1,7 @@
 -- 01, Answers, status 7: the definitions of specs/Attributes, one way through their tests at a time.
 use Prim.Native.Nat.{ℕ}
 use mathlib.Core.Bool.{Bool, true, false, not, _&&_}
-use mathlib.Core.List.{List, [], _∷_, map}
+use mathlib.Core.List.{List, [], _∷_}
 use mathlib.Core.Path.{_≡_, refl, sym, ap, ap₂, _∙_}
 use Rattle.octets.specs.Lists.{anyOf}
 use Rattle.octets.specs.Octets.{same, member, ordered}
@@ -9,7 +9,7 @@ use Rattle.octets.specs.Number.{digits}
 use Rattle.octets.proofs.Lists.{both}
 use Rattle.der.specs.declared.Element.{Element}
 use Rattle.der.specs.declared.Fit.{Fit}
-use Rattle.der.specs.declared.Fit.the-variants.{Fits, Breaks}
+use Rattle.der.specs.declared.Fit.the-variants.{Breaks}
 use Rattle.der.specs.Element.{elements, whole, inside}
 use Rattle.der.specs.Fit.{andThen, held, each}
 use Rattle.der.specs.Oid.{oid, arc, arcs}

@@ -1,8 +1,8 @@
 -- RFC 5934: a SeqNumber has 8 octets at most, so the number that `number_in` reads is the whole one in a message that passed row 36.
-use Prim.Native.Nat.{ℕ, _≤_}
-use mathlib.Core.Bool.{true, _&&_, and-eq-true-iff}
+use Prim.Native.Nat.{ℕ}
+use mathlib.Core.Bool.{and-eq-true-iff}
 use mathlib.Core.List.{List}
-use mathlib.Core.Path.{_≡_, refl, sym, ap, _∙_}
+use mathlib.Core.Path.{_≡_, ap}
 use lib.ListN.{length, take}
 use lib.Seq.{take-all}
 use lib.Dec.{leb, ltb}
@@ -10,8 +10,7 @@ use borrow.Author.Tests.{leb-true}
 use Rattle.octets.specs.Octets.{octet}
 use Rattle.octets.specs.Number.{number}
 use Rattle.der.specs.declared.Element.{Element}
-use Rattle.der.specs.Element.{contents, inside, field}
-use Rattle.syntax.specs.declared.TampType.the-variants.{Update}
+use Rattle.der.specs.Element.{contents, field}
 use Rattle.syntax.specs.Grammar.{free, obeys, seqNumber, obeyed}
 use Rattle.syntax.specs.Asn.{TAMPMsgRef, TAMPSequenceNumber}
 use Rattle.syntax.proofs.Match.{obeys-fits}

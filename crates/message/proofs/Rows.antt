@@ -1,13 +1,12 @@
 -- 01, Answers: the rows 36, 31 and 127 (specs/Rows), as a reader of the message comes upon them.
 use Prim.Native.Nat.{ℕ}
-use mathlib.Core.Bool.{Bool, true, false, not, _&&_}
+use mathlib.Core.Bool.{true, false, not}
 use mathlib.Core.List.{List}
-use mathlib.Core.Path.{_≡_, refl, sym, ap, _∙_}
+use mathlib.Core.Path.{_≡_, sym, ap, _∙_}
 use Rattle.octets.specs.declared.Status.{Status}
 use Rattle.octets.specs.Status.{malformed, versionNumberMismatch, other}
 use Rattle.octets.specs.Limits.{maxDepth}
 use Rattle.der.specs.declared.Element.{Element}
-use Rattle.der.specs.declared.Fit.{Fit}
 use Rattle.der.specs.declared.Fit.the-variants.{Fits, Breaks}
 use Rattle.der.specs.Element.{absent, elementAt, field}
 use Rattle.der.specs.Check.{spans}
@@ -18,11 +17,9 @@ use Rattle.syntax.specs.Forms.{formSyntax}
 use Rattle.syntax.specs.Grammar.{fit}
 use Rattle.envelope.specs.declared.Signed.{Signed}
 use Rattle.envelope.specs.declared.Refusal.{Refusal}
-use Rattle.envelope.specs.declared.Envelope.{Envelope}
 use Rattle.envelope.specs.declared.Envelope.the-variants as envelope
 use Rattle.envelope.specs.Rows.{envelope}
 use Rattle.envelope.proofs.Given.{at-fits, at-breaks, if-passes, if-applies}
-use Rattle.message.specs.declared.Request.{Request}
 use Rattle.message.specs.declared.Received.{Received}
 use Rattle.message.specs.declared.Received.the-variants.{Asks, Refused}
 use Rattle.message.specs.Fields.{bodyIn, msgRefIn, versionIn, terseIn}

@@ -16,7 +16,6 @@ use Rattle.der.specs.declared.Element.{Element}
 use Rattle.der.specs.Element.{whole}
 use Rattle.syntax.specs.declared.TampType.the-variants.{Update}
 use Rattle.rights.specs.Rights.{Rights, Outside}
-use Rattle.rights.specs.Decision.{within}
 use Rattle.rights.proofs.Within.{within-iff, outside-iff, not-both}
 use Rattle.anchor.specs.Info.{rightsOf}
 use Rattle.anchor.specs.Judge.{judge, passes}
@@ -25,9 +24,8 @@ use Rattle.message.specs.declared.Request.{Request}
 use Rattle.message.specs.declared.Entry.{Entry}
 use Rattle.message.specs.declared.Entry.the-variants as entry
 use Rattle.message.specs.Fields.{seqNumIn}
-use Rattle.reply.specs.Replies.{updateConfirm}
 use Rattle.protocol.specs.Acceptance.{rightsAt}
-use Rattle.protocol.specs.Update.{Step, added, step, Steps, steps}
+use Rattle.protocol.specs.Update.{Step, added, step, steps}
 use Rattle.protocol.specs.Effect.{withNumber, updateEffect, effectOf, effect}
 use Rattle.protocol.specs.Demand2.{entriesOf, Confirms, Demand2}
 use Rattle.protocol.proofs.Lists.{by-given}

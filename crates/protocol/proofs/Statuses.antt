@@ -1,10 +1,10 @@
 -- 01, Answers: "All else is an answer with a TAMP status". Every status that a call answers with is below 128, one octet of a reply; a house refusal is 201 or above.
 use Prim.Native.Nat.{ℕ, _≤_, _<_}
 use native.Mathlib.Omega.{arith}
-use mathlib.Core.Bool.{Bool, true, false}
-use mathlib.Core.List.{List, []}
+use mathlib.Core.Bool.{Bool}
+use mathlib.Core.List.{List}
 use mathlib.Core.Option.{Option, none, some}
-use mathlib.Core.Path.{_≡_, refl}
+use mathlib.Core.Path.{_≡_}
 use lib.ListN.{length}
 use lib.Dec.{ltb}
 use Rattle.octets.specs.declared.Status.{Status}
@@ -25,7 +25,6 @@ use Rattle.store.specs.Store.{Store, identifiers}
 use Rattle.store.specs.Signer.{signer}
 use Rattle.store.specs.Image.{decode}
 use Rattle.envelope.specs.declared.Refusal.{Refusal}
-use Rattle.envelope.specs.declared.Signed.{Signed}
 use Rattle.envelope.specs.declared.Envelope.{Envelope}
 use Rattle.envelope.specs.declared.Envelope.the-variants as envelope
 use Rattle.envelope.specs.Rows.{givenUnknown, envelope}
@@ -122,6 +121,7 @@ in-judgement σ verdict s = go (received s) (in-received s)
     by q (found.At i) = in-weighed σ s q i
     by q found.Unverified = omega arith
     by q found.Unknown = omega arith
+
     go : (r : Received) → InReceived r → InJudgement (judgementOf σ verdict s r)
     go (Refused r) h = h
     go (Asks q) h = by q (signer (identifiers σ) verdict (contents s (q .signer)))

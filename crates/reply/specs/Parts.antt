@@ -1,14 +1,14 @@
 -- The replies once more, part by part in the order in which they are written, each header by the number of octets behind it; and their sizes.
 -- proofs/Sizes ties both to Replies.
 use Prim.Native.Nat.{ℕ, _+_, _*_}
-use mathlib.Core.List.{List, [], _∷_, _++_, map, flatMap}
+use mathlib.Core.List.{List, _++_, map, flatMap}
 use lib.ListN.{length}
 use Rattle.octets.specs.declared.Status.{Status}
 use Rattle.der.specs.Write.{lengthOctets, header, element}
 use Rattle.store.specs.Records.{recordsFrom, recordsOf}
 use Rattle.store.specs.Parts.{identifierIn, namesFrom, communitiesOf}
 use Rattle.reply.specs.declared.ResponseSizes.{ResponseSizes}
-use Rattle.reply.specs.Replies.{statusCode, communityList}
+use Rattle.reply.specs.Replies.{statusCode, communityList, statusResponse}
 
 -- a status by its number
 abbrev pub statusOf : ℕ → Status
@@ -71,3 +71,7 @@ responseContents k image = k + elementSize (terseContents image)
 -- the three together
 abbrev pub responseSizes : ℕ → List ℕ → ResponseSizes
 responseSizes k image = record { contents = responseContents k image; terse = terseContents image; identifiers = length (identifierParts image) }
+
+-- the response to a query with this msgRef, of the store with this image
+abbrev pub responseOf : List ℕ → List ℕ → List ℕ
+responseOf msgRef image = statusResponse msgRef (map identifierIn (recordsOf image)) (communitiesOf image)

@@ -1,4 +1,146 @@
-// types
+// The replies of 01: TAMP content in terse form, unsigned (RFC 5934). Built by one writer that keeps the lent reply buffer and its place in it.
+ghost use mathlib.Core.Path.{_≡_};
+ghost use mathlib.Core.List.{List, map};
+ghost use Prim.Native.Nat.{_+_, _*_, _^_, _≤_, _<_};
+ghost use lib.ListN.{length};
+ghost use Rattle.octets.specs.Octets.{placed};
+ghost use Rattle.octets.specs.declared.Status.{Status};
+ghost use Rattle.octets.specs.Limits.{maxMessage};
+ghost use Rattle.der.specs.Write.{element, header as headerOf};
+ghost use Rattle.reply.specs.Replies.{tampError, updateConfirm, communityConfirm, adjustConfirm};
+ghost use Rattle.reply.specs.Written.{wrote};
+ghost use Rattle.reply.specs.Parts.{
+  statusOf,
+  statusCodes,
+  elementSize,
+  errorParts,
+  errorContents,
+  updateParts,
+  updateContents,
+  confirmParts,
+  identifierParts,
+  communitiesFrom,
+  communityParts,
+  responseParts,
+  responseContents,
+  responseSizes,
+  responseOf,
+};
+use octets::Status;
+
+// What stands behind the writer's operations: each writes at a place, and gives the place behind it.
+
+fn put_octets(buf: &mut [u8], at: usize, s: &[u8]) -> usize
+    requires { ⌜ at + length (now s) ≤ length (now buf) ⌝ }
+    ensures { λ r. ⌜ (r ≡ at + length (now (s .entry))) × (now (buf .exit) ≡ placed (now (buf .entry)) at (now (s .entry))) ⌝ }
+{
+    octets::copy_to(buf, at, s);
+    at + s.len()
+}
+
+// StatusCodeList: 0A 01 and the code, for each.
+fn put_statuses(buf: &mut [u8], at: usize, codes: &[u8]) -> usize
+    requires { ⌜ at + length (statusCodes (now codes)) ≤ length (now buf) ⌝ }
+    ensures { λ r. ⌜ (r ≡ at + length (statusCodes (now (codes .entry)))) × (now (buf .exit) ≡ placed (now (buf .entry)) at (statusCodes (now (codes .entry)))) ⌝ }
+{
+    let mut p = at;
+    let mut i = 0;
+    while i < codes.len() {
+        buf[p] = 0x0A;
+        buf[p + 1] = 1;
+        buf[p + 2] = codes[i];
+        p += 3;
+        i += 1;
+    }
+    p
+}
+
+// The octets of an element with n octets of contents.
+fn element_size(n: usize) -> usize
+    requires { ⌜ n < 2 ^ 63 ⌝ }
+    ensures { λ r. ⌜ (r ≡ elementSize n) × (r ≤ n + 10) ⌝ }
+{
+    der::header_size(n) + n
+}
+
+// An element with the contents s.
+fn put_element(buf: &mut [u8], at: usize, tag: u8, s: &[u8]) -> usize
+    requires { ⌜ at + length (element tag (now s)) ≤ length (now buf) ⌝ }
+    ensures { λ r. ⌜ (r ≡ at + length (element tag (now (s .entry)))) × (now (buf .exit) ≡ placed (now (buf .entry)) at (element tag (now (s .entry)))) ⌝ }
+{
+    let p = der::put_header(buf, at, tag, s.len());
+    put_octets(buf, p, s)
+}
+
+// KeyIdentifiers: 04, length and identifier, for each anchor of the image.
+fn put_identifiers(buf: &mut [u8], at: usize, image: &[u8]) -> usize
+    requires { ⌜ at + length (identifierParts (now image)) ≤ length (now buf) ⌝ }
+    ensures { λ r. ⌜ (r ≡ at + length (identifierParts (now (image .entry))))
+        × (now (buf .exit) ≡ placed (now (buf .entry)) at (identifierParts (now (image .entry)))) ⌝ }
+{
+    let mut q = at;
+    let mut p = store::first_record(image);
+    let mut left = store::anchor_count(image);
+    while 0 < left {
+        q = put_element(
+            buf,
+            q,
+            0x04,
+            store::identifier_of(store::record_at(image, p)),
+        );
+        p = store::record_end(image, p);
+        left -= 1;
+    }
+    q
+}
+
+// The octets that the n names take as OIDs.
+fn names_size(names: &[u8], n: usize) -> usize
+    requires { ⌜ length (communitiesFrom n (now names)) < 2 ^ 63 ⌝ }
+    ensures { λ r. ⌜ r ≡ length (communitiesFrom n (now (names .entry))) ⌝ }
+{
+    let mut size = 0;
+    let mut p = 0;
+    let mut left = n;
+    while 0 < left {
+        size += element_size(store::name_at(names, p).len());
+        p = store::name_end(names, p);
+        left -= 1;
+    }
+    size
+}
+
+// 06, length and contents, for each of n names.
+fn put_names(buf: &mut [u8], at: usize, names: &[u8], n: usize) -> usize
+    requires { ⌜ at + length (communitiesFrom n (now names)) ≤ length (now buf) ⌝ }
+    ensures { λ r. ⌜ (r ≡ at + length (communitiesFrom n (now (names .entry))))
+        × (now (buf .exit) ≡ placed (now (buf .entry)) at (communitiesFrom n (now (names .entry)))) ⌝ }
+{
+    let mut q = at;
+    let mut p = 0;
+    let mut left = n;
+    while 0 < left {
+        q = put_element(buf, q, 0x06, store::name_at(names, p));
+        p = store::name_end(names, p);
+        left -= 1;
+    }
+    q
+}
+
+// CommunityIdentifierList, of the image's communities; nothing where there are none.
+fn put_communities(buf: &mut [u8], at: usize, image: &[u8]) -> usize
+    requires { ⌜ at + length (communityParts (now image)) ≤ length (now buf) ⌝ }
+    ensures { λ r. ⌜ (r ≡ at + length (communityParts (now (image .entry))))
+        × (now (buf .exit) ≡ placed (now (buf .entry)) at (communityParts (now (image .entry)))) ⌝ }
+{
+    let n = store::community_count(image);
+    if n == 0 {
+        return at;
+    }
+    let names = store::community_octets(image);
+    let p = der::put_header(buf, at, 0x30, names_size(names, n));
+    put_names(buf, p, names, n)
+}
 
 // The writer.
 pub struct Writer<'a> {
@@ -6,9 +148,302 @@ pub struct Writer<'a> {
     pub at: usize,
 }
 
+fn new<'a>(buf: &'a mut [u8]) -> Writer<'a>
+    ensures { λ r. ⌜ (r .buf ≡ buf .entry) × (r .at ≡ 0) ⌝ }
+{
+    Writer { buf: buf, at: 0 }
+}
+
+// How much is written.
+fn finish<'a>(w: Writer<'a>) -> usize
+    ensures { λ r. ⌜ (r ≡ w .entry .at) × (now (w .exit .0) ≡ now (w .entry .buf)) ⌝ }
+{
+    w.at
+}
+
+fn header<'a>(w: Writer<'a>, tag: u8, n: usize) -> Writer<'a>
+    requires { ⌜ w .at + length (headerOf tag n) ≤ length (now (w .buf)) ⌝ }
+    ensures { λ r. ⌜ r ≡ wrote (w .entry) (headerOf tag n) ⌝ }
+{
+    let at = w.at;
+    let next = der::put_header(&mut *w.buf, at, tag, n);
+    Writer {
+        buf: w.buf,
+        at: next,
+    }
+}
+
+fn append<'a, 'b>(w: Writer<'a>, s: &'b [u8]) -> Writer<'a>
+    requires { ⌜ w .at + length (now s) ≤ length (now (w .buf)) ⌝ }
+    ensures { λ r. ⌜ r ≡ wrote (w .entry) (now (s .entry)) ⌝ }
+{
+    let at = w.at;
+    let next = put_octets(&mut *w.buf, at, s);
+    Writer {
+        buf: w.buf,
+        at: next,
+    }
+}
+
+fn statuses<'a, 'b>(w: Writer<'a>, codes: &'b [u8]) -> Writer<'a>
+    requires { ⌜ w .at + length (statusCodes (now codes)) ≤ length (now (w .buf)) ⌝ }
+    ensures { λ r. ⌜ r ≡ wrote (w .entry) (statusCodes (now (codes .entry))) ⌝ }
+{
+    let at = w.at;
+    let next = put_statuses(&mut *w.buf, at, codes);
+    Writer {
+        buf: w.buf,
+        at: next,
+    }
+}
+
+fn identifiers<'a, 'b>(w: Writer<'a>, image: &'b [u8]) -> Writer<'a>
+    requires { ⌜ w .at + length (identifierParts (now image)) ≤ length (now (w .buf)) ⌝ }
+    ensures { λ r. ⌜ r ≡ wrote (w .entry) (identifierParts (now (image .entry))) ⌝ }
+{
+    let at = w.at;
+    let next = put_identifiers(&mut *w.buf, at, image);
+    Writer {
+        buf: w.buf,
+        at: next,
+    }
+}
+
+fn communities<'a, 'b>(w: Writer<'a>, image: &'b [u8]) -> Writer<'a>
+    requires { ⌜ w .at + length (communityParts (now image)) ≤ length (now (w .buf)) ⌝ }
+    ensures { λ r. ⌜ r ≡ wrote (w .entry) (communityParts (now (image .entry))) ⌝ }
+{
+    let at = w.at;
+    let next = put_communities(&mut *w.buf, at, image);
+    Writer {
+        buf: w.buf,
+        at: next,
+    }
+}
+
+// How many octets each takes, before anything is written. What they are made of are parts of a message, of at most 8,192 octets.
+
+fn error_contents(m: usize, k: usize) -> usize
+    requires { ⌜ m + k < 2 ^ 63 ⌝ }
+    ensures { λ r. ⌜ (r ≡ errorContents m k) × (r ≤ m + k + 13) ⌝ }
+{
+    element_size(m) + 3 + k
+}
+
+fn update_contents(k: usize, count: usize) -> usize
+    requires { ⌜ k + 3 * count < 2 ^ 63 ⌝ }
+    ensures { λ r. ⌜ (r ≡ updateContents k count) × (r ≤ k + 3 * count + 10) ⌝ }
+{
+    k + element_size(3 * count)
+}
+
+pub fn error_size(msgtype: &[u8], msgref: &[u8]) -> usize
+    requires { ⌜ (length (now msgtype) ≤ maxMessage) × (length (now msgref) ≤ maxMessage) ⌝ }
+    ensures { λ r. ⌜ ((status : Status) → r ≡ length (tampError (now (msgtype .entry)) status (now (msgref .entry)))) ⌝ }
+{
+    element_size(error_contents(msgtype.len(), msgref.len()))
+}
+
+// Of a confirm of `count` entries.
+pub fn update_size(msgref: &[u8], count: usize) -> usize
+    requires { ⌜ (length (now msgref) ≤ maxMessage) × (count ≤ maxMessage) ⌝ }
+    ensures { λ r. ⌜ ((l : List Status) → length l ≡ count → r ≡ length (updateConfirm (now (msgref .entry)) l)) ⌝ }
+{
+    element_size(update_contents(msgref.len(), count))
+}
+
+// Of the confirms of Community Update and Adjust, which have one status.
+pub fn confirm_size(msgref: &[u8]) -> usize
+    requires { ⌜ length (now msgref) ≤ maxMessage ⌝ }
+    ensures { λ r. ⌜ ((status : Status) → r ≡ length (communityConfirm (now (msgref .entry)) status))
+        × (r ≡ length (adjustConfirm (now (msgref .entry)))) ⌝ }
+{
+    element_size(msgref.len() + 3)
+}
+
+fn identifiers_size(image: &[u8]) -> usize
+    requires { ⌜ length (identifierParts (now image)) < 2 ^ 63 ⌝ }
+    ensures { λ r. ⌜ r ≡ length (identifierParts (now (image .entry))) ⌝ }
+{
+    let mut size = 0;
+    let mut p = store::first_record(image);
+    let mut left = store::anchor_count(image);
+    while 0 < left {
+        size += element_size(store::identifier_of(store::record_at(image, p)).len());
+        p = store::record_end(image, p);
+        left -= 1;
+    }
+    size
+}
+
+fn communities_size(image: &[u8]) -> usize
+    requires { ⌜ length (communityParts (now image)) < 2 ^ 63 ⌝ }
+    ensures { λ r. ⌜ r ≡ length (communityParts (now (image .entry))) ⌝ }
+{
+    let n = store::community_count(image);
+    if n == 0 {
+        return 0;
+    }
+    element_size(names_size(store::community_octets(image), n))
+}
+
 // The sizes that the headers of a status response take: the contents, the terse response in them, and the identifiers in that.
 pub struct ResponseSizes {
     pub contents: usize,
     pub terse: usize,
     pub identifiers: usize,
+}
+
+// Behind k octets of msgRef.
+fn response_sizes(k: usize, image: &[u8]) -> ResponseSizes
+    requires { ⌜ responseContents k (now image) < 2 ^ 63 ⌝ }
+    ensures { λ r. ⌜ r ≡ responseSizes k (now (image .entry)) ⌝ }
+{
+    let identifiers = identifiers_size(image);
+    let terse = element_size(identifiers) + communities_size(image);
+    ResponseSizes {
+        contents: k + element_size(terse),
+        terse: terse,
+        identifiers: identifiers,
+    }
+}
+
+// Of a status response of the store with this image.
+pub fn response_size(msgref: &[u8], image: &[u8]) -> usize
+    requires { ⌜ (length (now msgref) ≤ maxMessage) × (length (now image) < 2 ^ 32) ⌝ }
+    ensures { λ r. ⌜ r ≡ length (responseOf (now (msgref .entry)) (now (image .entry))) ⌝ }
+{
+    let s = response_sizes(msgref.len(), image);
+    element_size(s.contents)
+}
+
+// The replies, part by part.
+
+fn error<'a, 'b>(
+    buf: &'a mut [u8],
+    n: usize,
+    m: usize,
+    msgtype: &'b [u8],
+    code: &'b [u8],
+    msgref: &'b [u8],
+) -> usize
+    requires { ⌜ length (errorParts n m (now msgtype) (now code) (now msgref)) ≤ length (now buf) ⌝ }
+    ensures { λ r. ⌜ (r ≡ length (errorParts n m (now (msgtype .entry)) (now (code .entry)) (now (msgref .entry))))
+        × (now (buf .exit) ≡ placed (now (buf .entry)) 0 (errorParts n m (now (msgtype .entry)) (now (code .entry)) (now (msgref .entry)))) ⌝ }
+{
+    let w = new(buf);
+    let w = header(w, 0x30, n);
+    let w = header(w, 0x06, m);
+    let w = append(w, msgtype);
+    let w = statuses(w, code);
+    let w = append(w, msgref);
+    finish(w)
+}
+
+fn update<'a, 'b>(buf: &'a mut [u8], n: usize, msgref: &'b [u8], m: usize, codes: &'b [u8]) -> usize
+    requires { ⌜ length (updateParts n (now msgref) m (now codes)) ≤ length (now buf) ⌝ }
+    ensures { λ r. ⌜ (r ≡ length (updateParts n (now (msgref .entry)) m (now (codes .entry))))
+        × (now (buf .exit) ≡ placed (now (buf .entry)) 0 (updateParts n (now (msgref .entry)) m (now (codes .entry)))) ⌝ }
+{
+    let w = new(buf);
+    let w = header(w, 0x30, n);
+    let w = append(w, msgref);
+    let w = header(w, 0xA0, m);
+    let w = statuses(w, codes);
+    finish(w)
+}
+
+fn confirm<'a, 'b>(buf: &'a mut [u8], n: usize, msgref: &'b [u8], tag: u8, code: &'b [u8]) -> usize
+    requires { ⌜ length (confirmParts n (now msgref) tag (now code)) ≤ length (now buf) ⌝ }
+    ensures { λ r. ⌜ (r ≡ length (confirmParts n (now (msgref .entry)) tag (now (code .entry))))
+        × (now (buf .exit) ≡ placed (now (buf .entry)) 0 (confirmParts n (now (msgref .entry)) tag (now (code .entry)))) ⌝ }
+{
+    let w = new(buf);
+    let w = header(w, 0x30, n);
+    let w = append(w, msgref);
+    let w = header(w, tag, 1);
+    let w = append(w, code);
+    finish(w)
+}
+
+fn response<'a, 'b>(
+    buf: &'a mut [u8],
+    n: usize,
+    msgref: &'b [u8],
+    a: usize,
+    m: usize,
+    image: &'b [u8],
+) -> usize
+    requires { ⌜ length (responseParts n (now msgref) a m (now image)) ≤ length (now buf) ⌝ }
+    ensures { λ r. ⌜ (r ≡ length (responseParts n (now (msgref .entry)) a m (now (image .entry))))
+        × (now (buf .exit) ≡ placed (now (buf .entry)) 0 (responseParts n (now (msgref .entry)) a m (now (image .entry)))) ⌝ }
+{
+    let w = new(buf);
+    let w = header(w, 0x30, n);
+    let w = append(w, msgref);
+    let w = header(w, 0xA0, a);
+    let w = header(w, 0x30, m);
+    let w = identifiers(w, image);
+    let w = communities(w, image);
+    finish(w)
+}
+
+// The replies of 01.
+
+// TAMPError
+pub fn put_error<'a, 'b>(
+    buf: &'a mut [u8],
+    msgtype: &'b [u8],
+    status: Status,
+    msgref: &'b [u8],
+) -> usize
+    requires { ⌜ (status .number < 256) × (length (tampError (now msgtype) status (now msgref)) ≤ length (now buf)) ⌝ }
+    ensures { λ r. ⌜ (r ≡ length (tampError (now (msgtype .entry)) status (now (msgref .entry))))
+        × (now (buf .exit) ≡ placed (now (buf .entry)) 0 (tampError (now (msgtype .entry)) status (now (msgref .entry)))) ⌝ }
+{
+    let m = msgtype.len();
+    let n = error_contents(m, msgref.len());
+    let code = [status.number as u8];
+    error(buf, n, m, msgtype, &code, msgref)
+}
+
+// TAMPUpdateConfirm, of the entries' statuses as octets
+pub fn put_update_confirm<'a, 'b>(buf: &'a mut [u8], msgref: &'b [u8], codes: &'b [u8]) -> usize
+    requires { ⌜ length (updateConfirm (now msgref) (map statusOf (now codes))) ≤ length (now buf) ⌝ }
+    ensures { λ r. ⌜ (r ≡ length (updateConfirm (now (msgref .entry)) (map statusOf (now (codes .entry)))))
+        × (now (buf .exit) ≡ placed (now (buf .entry)) 0 (updateConfirm (now (msgref .entry)) (map statusOf (now (codes .entry))))) ⌝ }
+{
+    let count = codes.len();
+    let n = update_contents(msgref.len(), count);
+    update(buf, n, msgref, 3 * count, codes)
+}
+
+// TAMPCommunityUpdateConfirm
+pub fn put_community_confirm(buf: &mut [u8], msgref: &[u8], status: Status) -> usize
+    requires { ⌜ (status .number < 256) × (length (communityConfirm (now msgref) status) ≤ length (now buf)) ⌝ }
+    ensures { λ r. ⌜ (r ≡ length (communityConfirm (now (msgref .entry)) status))
+        × (now (buf .exit) ≡ placed (now (buf .entry)) 0 (communityConfirm (now (msgref .entry)) status)) ⌝ }
+{
+    let code = [status.number as u8];
+    confirm(buf, msgref.len() + 3, msgref, 0x80, &code)
+}
+
+// SequenceNumberAdjustConfirm
+pub fn put_adjust_confirm(buf: &mut [u8], msgref: &[u8]) -> usize
+    requires { ⌜ length (adjustConfirm (now msgref)) ≤ length (now buf) ⌝ }
+    ensures { λ r. ⌜ (r ≡ length (adjustConfirm (now (msgref .entry))))
+        × (now (buf .exit) ≡ placed (now (buf .entry)) 0 (adjustConfirm (now (msgref .entry)))) ⌝ }
+{
+    let code = [0u8];
+    confirm(buf, msgref.len() + 3, msgref, 0x0A, &code)
+}
+
+// TAMPStatusResponse, of the store with this image
+pub fn put_status_response<'a, 'b>(buf: &'a mut [u8], msgref: &'b [u8], image: &'b [u8]) -> usize
+    requires { ⌜ length (responseOf (now msgref) (now image)) ≤ length (now buf) ⌝ }
+    ensures { λ r. ⌜ (r ≡ length (responseOf (now (msgref .entry)) (now (image .entry))))
+        × (now (buf .exit) ≡ placed (now (buf .entry)) 0 (responseOf (now (msgref .entry)) (now (image .entry)))) ⌝ }
+{
+    let s = response_sizes(msgref.len(), image);
+    response(buf, s.contents, msgref, s.terse, s.identifiers, image)
 }

@@ -10,3 +10,4 @@ pub mod RowRules
 pub mod RowSteps
 pub mod Ties
 pub mod TypeTable
+pub mod FieldTheorems

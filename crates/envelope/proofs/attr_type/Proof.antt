@@ -1,6 +1,6 @@
 -- `envelope::attr_type` meets its contract. Assumes nothing.
 use borrow.Author.Needs.{needs}
-use mathlib.Core.Path.{_≡_, refl, sym, ap, _∙_}
+use mathlib.Core.Path.{ap, _∙_}
 use Rattle.der.specs.Element.{contents}
 use Rattle.envelope.proofs.attr_type.Statement.{statement}
 use Rattle.envelope.proofs.attr_type.Tie as tie

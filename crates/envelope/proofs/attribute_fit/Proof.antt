@@ -1,6 +1,6 @@
 -- `envelope::attribute_fit` meets its contract. Assumes nothing.
 use borrow.Author.Needs.{needs}
-use mathlib.Core.Path.{_≡_, refl, sym, ap, _∙_}
+use mathlib.Core.Path.{_∙_}
 use Rattle.envelope.proofs.Attributes.{attribute-fit}
 use Rattle.envelope.proofs.attribute_fit.Statement.{statement}
 use Rattle.envelope.proofs.attribute_fit.Tie as tie

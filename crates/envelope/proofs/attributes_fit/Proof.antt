@@ -1,7 +1,6 @@
 -- `envelope::attributes_fit` meets its contract. Assumes nothing.
 use borrow.Author.Needs.{needs}
-use mathlib.Core.Path.{_≡_, refl, sym, ap, _∙_}
-use mathlib.Core.Bool.{Bool, _&&_}
+use mathlib.Core.Path.{sym, _∙_}
 use borrow.Author.Tests.{not-true, not-false}
 use Rattle.der.proofs.Fits.{then-fits, then-breaks, held-fits, held-breaks}
 use Rattle.envelope.proofs.Attributes.{attributes-absent, attributes-run, types-first, types-second, types-both}
@@ -18,7 +17,9 @@ enum-known-o : tie.Need-enum-known-o
 enum-known-o c = search needs
 
 returns-2 : tie.Need-returns-2
-returns-2 c = sym (attributes-run _ _ _ _ (not-false _ (c .before .before .before .before .if1 .left)) ∙ then-breaks _ (sym (c .before .before .before .each-attribute .ensures) ∙ c .before .o .given .1))
+returns-2 c =
+    let c3 = c .before .before .before in
+    sym (attributes-run _ _ _ _ (not-false _ (c3 .before .if1 .left)) ∙ then-breaks _ (sym (c3 .each-attribute .ensures) ∙ c .before .o .given .1))
 
 enum-told : tie.Need-enum-told
 enum-told c = search needs
@@ -31,10 +32,13 @@ has-type-requires c κs = search needs
 
 returns-3 : tie.Need-returns-3
 returns-3 c =
-    let a = c .before .before .before .before .before .before .before .before .before .before .args in
+    let c3 = c .before .before .before in
+    let c6 = c3 .before .before .before in
+    let c10 = c6 .before .before .before .before in
+    let a = c10 .args in
     sym
-    (attributes-run _ _ _ _ (not-false _ (c .before .before .before .before .before .before .if1 .left))
-    ∙ then-fits _ (sym (c .before .before .before .before .before .each-attribute .ensures) ∙ c .before .before .before .enum-told .given .1)
+    (attributes-run _ _ _ _ (not-false _ (c6 .if1 .left))
+    ∙ then-fits _ (sym (c3 .before .before .each-attribute .ensures) ∙ c3 .enum-told .given .1)
     ∙ held-breaks _ (types-first (a .s .now) (a .attributes) (c .before .has-type .ensures) (not-true _ (c .if2 .taken))))
 
 slice-aggregate-has-type-2 : tie.Need-slice-aggregate-has-type-2
@@ -45,20 +49,28 @@ has-type-requires-2 c κs = search needs
 
 returns-4 : tie.Need-returns-4
 returns-4 c =
-    let a = c .before .before .before .before .before .before .before .before .before .before .before .before .before .args in
+    let c6 = c .before .before .before .before .before .before in
+    let c9 = c6 .before .before .before in
+    let c13 = c9 .before .before .before .before in
+    let a = c13 .args in
     sym
-    (attributes-run _ _ _ _ (not-false _ (c .before .before .before .before .before .before .before .before .before .if1 .left))
-    ∙ then-fits _ (sym (c .before .before .before .before .before .before .before .before .each-attribute .ensures) ∙ c .before .before .before .before .before .before .enum-told .given .1)
+    (attributes-run _ _ _ _ (not-false _ (c9 .if1 .left))
+    ∙ then-fits _ (sym (c6 .before .before .each-attribute .ensures) ∙ c6 .enum-told .given .1)
     ∙ held-breaks _ (types-second (a .s .now) (a .attributes) (c .before .has-type2 .ensures) (not-true _ (c .if3 .taken))))
 
 returns-5 : tie.Need-returns-5
 returns-5 c =
-    let a = c .before .before .before .before .before .before .before .before .before .before .before .before .before .args in
+    let c3 = c .before .before .before in
+    let c6 = c3 .before .before .before in
+    let c9 = c6 .before .before .before in
+    let c13 = c9 .before .before .before .before in
+    let a = c13 .args in
+    let p = not-false _ (c3 .if2 .left) in
+    let q = not-false _ (c .if3 .left) in
     sym
-    (attributes-run _ _ _ _ (not-false _ (c .before .before .before .before .before .before .before .before .before .if1 .left))
-    ∙ then-fits _ (sym (c .before .before .before .before .before .before .before .before .each-attribute .ensures) ∙ c .before .before .before .before .before .before .enum-told .given .1)
-    ∙ held-fits _
-    (types-both (a .s .now) (a .attributes) (c .before .before .before .before .has-type .ensures) (not-false _ (c .before .before .before .if2 .left)) (c .before .has-type2 .ensures) (not-false _ (c .if3 .left))))
+    (attributes-run _ _ _ _ (not-false _ (c9 .if1 .left))
+    ∙ then-fits _ (sym (c6 .before .before .each-attribute .ensures) ∙ c6 .enum-told .given .1)
+    ∙ held-fits _ (types-both (a .s .now) (a .attributes) (c3 .before .has-type .ensures) p (c .before .has-type2 .ensures) q))
 
 pub attributes-fit-spec : {M : Type 1} → statement M
 attributes-fit-spec =

@@ -1,6 +1,5 @@
 -- `envelope::content_type` meets its contract. Assumes nothing.
 use borrow.Author.Needs.{needs}
-use mathlib.Core.Path.{_≡_, refl, sym, ap, _∙_}
 use Rattle.envelope.specs.Parts.{contentInfo, contentType}
 use Rattle.envelope.proofs.content_type.Statement.{statement}
 use Rattle.envelope.proofs.content_type.Tie as tie

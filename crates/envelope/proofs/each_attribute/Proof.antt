@@ -1,5 +1,5 @@
 -- `envelope::each_attribute` meets its contract. The loop's invariant: the judge finds in what is left what it finds in the whole. Assumes nothing.
-use mathlib.Core.Path.{_≡_, refl, sym, ap, _∙_}
+use mathlib.Core.Path.{_≡_, sym, _∙_}
 use Prim.Native.Nat.{_-_}
 use native.Mathlib.Omega.{arith}
 use borrow.Author.Tests.{not-true, not-false}
@@ -25,14 +25,17 @@ element-at-requires c κs = search needs
 
 loop-holds : tie.Need-loop-holds Inv-loop μ-loop
 loop-holds c =
-    let a = c .before .before .before .args in
+    let c3 = c .before .before .before in
+    let a = c3 .args in
     let m = a .attributes in
     (c .element-at .ensures, rw (c .element-at .ensures) (each-start (attributeJudge (a .about .now) (a .s .now) m) (a .s .now) (m .start) (m .stop)))
 
 returns : tie.Need-returns Inv-loop μ-loop
 returns c =
-    let a = c .before .before .before .before .before .before .before .args in
-    let l = c .before .before .before .loop in
+    let c3 = c .before .before .before in
+    let c7 = c3 .before .before .before .before in
+    let a = c7 .args in
+    let l = c3 .loop in
     let j = attributeJudge (a .about .now) (a .s .now) (a .attributes) in
     sym (each-broken j (a .s .now) (l .at) (a .attributes .stop) (l .former) (l .inv .0) (c .before .before .loop-test .taken) (not-true _ (c .if1 .taken)))
     ∙ l .inv .1
@@ -60,11 +63,14 @@ is-in-place-requires c κs = search needs
 
 returns-3 : tie.Need-returns-3 Inv-loop μ-loop
 returns-3 c =
-    let a = c .before .before .before .before .before .before .before .before .before .before .before .before .args in
-    let l = c .before .before .before .before .before .before .before .before .loop in
+    let c4 = c .before .before .before .before in
+    let c8 = c4 .before .before .before .before in
+    let c12 = c8 .before .before .before .before in
+    let a = c12 .args in
+    let l = c8 .loop in
     let j = attributeJudge (a .about .now) (a .s .now) (a .attributes) in
-    let g = not-false _ (c .before .before .before .before .before .if1 .left) in
-    let f = sym (c .before .before .before .before .attribute-fit .ensures) ∙ c .before .before .enum-told .given .1 in
+    let g = not-false _ (c4 .before .if1 .left) in
+    let f = sym (c4 .attribute-fit .ensures) ∙ c .before .before .enum-told .given .1 in
     let b = sym (c .before .is-in-place .ensures) ∙ not-true _ (c .if2 .taken) in
     sym (each-breaks j (a .s .now) (l .at) (a .attributes .stop) (l .former) (l .inv .0) g (then-fits _ f ∙ held-breaks _ b)) ∙ l .inv .1
 
@@ -73,18 +79,25 @@ element-at-requires-2 c κs = search needs
 
 loop-less : tie.Need-loop-less Inv-loop μ-loop
 loop-less c =
-    let a = c .before .before .before .before .before .before .before .before .before .before .before .before .before .args in
-    let l = c .before .before .before .before .before .before .before .before .before .loop in
-    let w = good-within (a .s .now) (l .at) (a .attributes .stop) (l .inv .0) (not-false _ (c .before .before .before .before .before .before .if1 .left)) in
+    let c6 = c .before .before .before .before .before .before in
+    let c9 = c6 .before .before .before in
+    let c13 = c9 .before .before .before .before in
+    let a = c13 .args in
+    let l = c9 .loop in
+    let w = good-within (a .s .now) (l .at) (a .attributes .stop) (l .inv .0) (not-false _ (c6 .if1 .left)) in
     omega (arith, w)
 
 loop-again : tie.Need-loop-again Inv-loop μ-loop
 loop-again c =
-    let a = c .before .before .before .before .before .before .before .before .before .before .before .before .before .args in
-    let l = c .before .before .before .before .before .before .before .before .before .loop in
+    let c3 = c .before .before .before in
+    let c6 = c3 .before .before .before in
+    let c9 = c6 .before .before .before in
+    let c13 = c9 .before .before .before .before in
+    let a = c13 .args in
+    let l = c9 .loop in
     let j = attributeJudge (a .about .now) (a .s .now) (a .attributes) in
-    let g = not-false _ (c .before .before .before .before .before .before .if1 .left) in
-    let f = sym (c .before .before .before .before .before .attribute-fit .ensures) ∙ c .before .before .before .enum-told .given .1 in
+    let g = not-false _ (c6 .if1 .left) in
+    let f = sym (c3 .before .before .attribute-fit .ensures) ∙ c3 .enum-told .given .1 in
     let b = sym (c .before .before .is-in-place .ensures) ∙ not-false _ (c .before .if2 .left) in (
       c .element-at2 .ensures,
       sym (each-turn j (a .s .now) (l .at) (a .attributes .stop) (l .former) (l .inv .0) g (then-fits _ f ∙ held-fits _ b)) ∙ l .inv .1,

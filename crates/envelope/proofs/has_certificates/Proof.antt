@@ -1,6 +1,5 @@
 -- `envelope::has_certificates` meets its contract. Assumes nothing.
 use borrow.Author.Needs.{needs}
-use mathlib.Core.Path.{_≡_, refl, sym, ap, _∙_}
 use Rattle.envelope.proofs.has_certificates.Statement.{statement}
 use Rattle.envelope.proofs.has_certificates.Tie as tie
 

@@ -32,16 +32,32 @@ equal-requires : tie.Need-equal-requires Inv-loop μ-loop
 equal-requires c κs = search needs
 
 returns : tie.Need-returns Inv-loop μ-loop
-returns c = sym (any-found _ _ _ _ (c .before .before .before .element-at .ensures) (c .before .before .before .before .loop-test .taken) (ap (same _) (sym (c .before .before .attr-type .ensures)) ∙ sym (c .before .equal .ensures) ∙ c .if1 .taken)) ∙ c .before .before .before .before .before .loop .inv
+returns c =
+    let c3 = c .before .before .before in
+    let c8 = c3 .before .before .before .before .before in
+    let t = ap (same (c8 .args .o .now)) (sym (c .before .before .attr-type .ensures)) ∙ sym (c .before .equal .ensures) ∙ c .if1 .taken in
+    sym (any-found _ _ _ _ (c3 .element-at .ensures) (c3 .before .loop-test .taken) t) ∙ c3 .before .before .loop .inv
 
 returns-2 : tie.Need-returns-2 Inv-loop μ-loop
-returns-2 c = sym (any-broken _ _ _ _ (c .before .before .before .before .before .element-at .ensures) (c .before .before .before .before .before .before .loop-test .taken) (not-true _ (c .if2 .taken)) (ap (same _) (sym (c .before .before .before .before .attr-type .ensures)) ∙ sym (c .before .before .before .equal .ensures) ∙ c .before .before .if1 .left)) ∙ c .before .before .before .before .before .before .before .loop .inv
+returns-2 c =
+    let c3 = c .before .before .before in
+    let c6 = c3 .before .before .before in
+    let c10 = c6 .before .before .before .before in
+    let t = ap (same (c10 .args .o .now)) (sym (c3 .before .attr-type .ensures)) ∙ sym (c3 .equal .ensures) ∙ c .before .before .if1 .left in
+    sym (any-broken _ _ _ _ (c3 .before .before .element-at .ensures) (c6 .loop-test .taken) (not-true _ (c .if2 .taken)) t) ∙ c6 .before .loop .inv
 
 loop-less : tie.Need-loop-less Inv-loop μ-loop
-loop-less c = omega (arith, good-within _ _ _ (c .before .before .before .before .before .element-at .ensures) (not-false _ (c .if2 .left)))
+loop-less c =
+    let c5 = c .before .before .before .before .before in
+    omega (arith, good-within _ _ _ (c5 .element-at .ensures) (not-false _ (c .if2 .left)))
 
 loop-again : tie.Need-loop-again Inv-loop μ-loop
-loop-again c = sym (any-turn _ _ _ _ (c .before .before .before .before .before .element-at .ensures) (not-false _ (c .if2 .left)) (ap (same _) (sym (c .before .before .before .before .attr-type .ensures)) ∙ sym (c .before .before .before .equal .ensures) ∙ c .before .before .if1 .left)) ∙ c .before .before .before .before .before .before .before .loop .inv
+loop-again c =
+    let c3 = c .before .before .before in
+    let c7 = c3 .before .before .before .before in
+    let c10 = c7 .before .before .before in
+    let t = ap (same (c10 .args .o .now)) (sym (c3 .before .attr-type .ensures)) ∙ sym (c3 .equal .ensures) ∙ c .before .before .if1 .left in
+    sym (any-turn _ _ _ _ (c3 .before .before .element-at .ensures) (not-false _ (c .if2 .left)) t) ∙ c7 .loop .inv
 
 returns-3 : tie.Need-returns-3 Inv-loop μ-loop
 returns-3 c = sym (any-end _ _ _ _ (c .loop-test .left)) ∙ c .before .loop .inv

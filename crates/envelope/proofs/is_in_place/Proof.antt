@@ -1,6 +1,6 @@
 -- `envelope::is_in_place` meets its contract. Assumes nothing.
 use borrow.Author.Needs.{needs}
-use mathlib.Core.Path.{_≡_, refl, sym, ap, _∙_}
+use mathlib.Core.Path.{sym, _∙_}
 use borrow.Author.Tests.{not-true, not-false}
 use Rattle.envelope.proofs.Attributes.{placed-not, placed-if}
 use Rattle.envelope.proofs.is_in_place.Statement.{statement}
@@ -16,7 +16,11 @@ in-order-requires : tie.Need-in-order-requires
 in-order-requires c κs = search needs
 
 returns : tie.Need-returns
-returns c = let a = c .before .before .before .before .before .args in placed-not (a .s .now) (a .attributes) (a .former) (a .e) (c .before .before .before .whole .ensures) (c .before .before .whole2 .ensures) (sym (c .before .in-order .ensures) ∙ not-true _ (c .if1 .taken))
+returns c =
+    let c3 = c .before .before .before in
+    let a = c3 .before .before .args in
+    let o = sym (c .before .in-order .ensures) ∙ not-true _ (c .if1 .taken) in
+    placed-not (a .s .now) (a .attributes) (a .former) (a .e) (c3 .whole .ensures) (c .before .before .whole2 .ensures) o
 
 attr-type-requires : tie.Need-attr-type-requires
 attr-type-requires c κs = search needs
@@ -25,7 +29,12 @@ has-type-requires : tie.Need-has-type-requires
 has-type-requires c κs = search needs
 
 returns-2 : tie.Need-returns-2
-returns-2 c = let a = c .before .before .before .before .before .before .before .args in placed-if (a .s .now) (a .attributes) (a .former) (a .e) (c .before .before .before .before .before .whole .ensures) (c .before .before .before .before .whole2 .ensures) (sym (c .before .before .before .in-order .ensures) ∙ not-false _ (c .before .before .if1 .left)) (c .before .attr-type .ensures) (c .has-type .ensures)
+returns-2 c =
+    let a = c .before .before .before .before .before .before .before .args in
+    let o = sym (c .before .before .before .in-order .ensures) ∙ not-false _ (c .before .before .if1 .left) in
+    let w = c .before .before .before .before .before .whole .ensures in
+    let v = c .before .before .before .before .whole2 .ensures in
+    placed-if (a .s .now) (a .attributes) (a .former) (a .e) w v o (c .before .attr-type .ensures) (c .has-type .ensures)
 
 pub is-in-place-spec : {M : Type 1} → statement M
 is-in-place-spec =

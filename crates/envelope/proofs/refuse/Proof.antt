@@ -1,6 +1,5 @@
 -- `envelope::refuse` meets its contract. Assumes nothing.
 use borrow.Author.Needs.{needs}
-use mathlib.Core.Path.{_≡_, refl, sym, ap, _∙_}
 use Rattle.envelope.proofs.refuse.Statement.{statement}
 use Rattle.envelope.proofs.refuse.Tie as tie
 

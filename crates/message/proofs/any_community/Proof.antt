@@ -17,7 +17,9 @@ use Rattle.message.proofs.any_community.Statement.{statement}
 use Rattle.message.proofs.any_community.Tie as tie
 
 abbrev Inv-loop : tie.InvT-loop
-Inv-loop communities s stop at₀ at = anyOf (λ c. member (contents s c) (namesIn communities)) (elements s at stop) ≡ anyOf (λ c. member (contents s c) (namesIn communities)) (elements s at₀ stop)
+Inv-loop communities s stop at₀ at =
+    anyOf (λ c. member (contents s c) (namesIn communities)) (elements s at stop)
+    ≡ anyOf (λ c. member (contents s c) (namesIn communities)) (elements s at₀ stop)
 
 abbrev μ-loop : tie.MeasureT-loop
 μ-loop communities s stop at₀ at = stop - at
@@ -35,16 +37,37 @@ is-among-requires : tie.Need-is-among-requires Inv-loop μ-loop
 is-among-requires c κs = search needs
 
 returns : tie.Need-returns Inv-loop μ-loop
-returns c = sym (any-found _ _ _ _ (c .before .before .before .element-at .ensures) (c .before .before .before .before .loop-test .taken) (ap (λ (o : List ℕ). member o (namesIn (c .before .before .before .before .before .before .before .before .args .communities .now))) (sym (c .before .before .contents .ensures)) ∙ sym (c .before .is-among .ensures) ∙ c .if1 .taken)) ∙ c .before .before .before .before .before .loop .inv
+returns c =
+    let c3 = c .before .before .before in
+    let c8 = c3 .before .before .before .before .before in
+    let q = ap (λ (o : List ℕ). member o (namesIn (c8 .args .communities .now))) (sym (c .before .before .contents .ensures)) in
+    let h = q ∙ sym (c .before .is-among .ensures) ∙ c .if1 .taken in
+    sym (any-found _ _ _ _ (c3 .element-at .ensures) (c3 .before .loop-test .taken) h) ∙ c3 .before .before .loop .inv
 
 returns-2 : tie.Need-returns-2 Inv-loop μ-loop
-returns-2 c = sym (any-broken _ _ _ _ (c .before .before .before .before .before .element-at .ensures) (c .before .before .before .before .before .before .loop-test .taken) (not-true _ (c .if2 .taken)) (ap (λ (o : List ℕ). member o (namesIn (c .before .before .before .before .before .before .before .before .before .before .args .communities .now))) (sym (c .before .before .before .before .contents .ensures)) ∙ sym (c .before .before .before .is-among .ensures) ∙ c .before .before .if1 .left)) ∙ c .before .before .before .before .before .before .before .loop .inv
+returns-2 c =
+    let c3 = c .before .before .before in
+    let c6 = c3 .before .before .before in
+    let c10 = c6 .before .before .before .before in
+    let q = ap (λ (o : List ℕ). member o (namesIn (c10 .args .communities .now))) (sym (c3 .before .contents .ensures)) in
+    let h = q ∙ sym (c3 .is-among .ensures) ∙ c .before .before .if1 .left in
+    sym (any-broken _ _ _ _ (c3 .before .before .element-at .ensures) (c6 .loop-test .taken) (not-true _ (c .if2 .taken)) h) ∙ c6 .before .loop .inv
 
 loop-less : tie.Need-loop-less Inv-loop μ-loop
-loop-less c = omega (arith, good-within (c .before .before .before .before .before .before .before .before .before .before .args .s .now) (c .before .before .before .before .before .before .before .loop .at) (c .before .before .before .before .before .before .before .before .before .before .args .t .stop) (c .before .before .before .before .before .element-at .ensures) (not-false _ (c .if2 .left)))
+loop-less c =
+    let c5 = c .before .before .before .before .before in
+    let c10 = c5 .before .before .before .before .before in
+    let a = c10 .args in
+    omega (arith, good-within (a .s .now) (c5 .before .before .loop .at) (a .t .stop) (c5 .element-at .ensures) (not-false _ (c .if2 .left)))
 
 loop-again : tie.Need-loop-again Inv-loop μ-loop
-loop-again c = sym (any-turn _ _ _ _ (c .before .before .before .before .before .element-at .ensures) (not-false _ (c .if2 .left)) (ap (λ (o : List ℕ). member o (namesIn (c .before .before .before .before .before .before .before .before .before .before .args .communities .now))) (sym (c .before .before .before .before .contents .ensures)) ∙ sym (c .before .before .before .is-among .ensures) ∙ c .before .before .if1 .left)) ∙ c .before .before .before .before .before .before .before .loop .inv
+loop-again c =
+    let c3 = c .before .before .before in
+    let c7 = c3 .before .before .before .before in
+    let c10 = c7 .before .before .before in
+    let q = ap (λ (o : List ℕ). member o (namesIn (c10 .args .communities .now))) (sym (c3 .before .contents .ensures)) in
+    let h = q ∙ sym (c3 .is-among .ensures) ∙ c .before .before .if1 .left in
+    sym (any-turn _ _ _ _ (c3 .before .before .element-at .ensures) (not-false _ (c .if2 .left)) h) ∙ c7 .loop .inv
 
 returns-3 : tie.Need-returns-3 Inv-loop μ-loop
 returns-3 c = sym (any-end _ _ _ _ (c .loop-test .left)) ∙ c .before .loop .inv

@@ -1,5 +1,5 @@
 -- `message::any_entry` meets its contract. The loop's invariant: the search from here finds what the whole search finds. Assumes nothing.
-use mathlib.Core.Path.{_≡_, refl, sym, ap, _∙_}
+use mathlib.Core.Path.{_≡_, refl, sym, _∙_}
 use Prim.Native.Nat.{_-_}
 use native.Mathlib.Omega.{arith}
 use borrow.Author.Tests.{not-true, not-false}
@@ -28,16 +28,31 @@ entry-names-requires : tie.Need-entry-names-requires Inv-loop μ-loop
 entry-names-requires c κs = search needs
 
 returns : tie.Need-returns Inv-loop μ-loop
-returns c = sym (any-found _ _ _ _ (c .before .before .element-at .ensures) (c .before .before .before .loop-test .taken) (sym (c .before .entry-names .ensures) ∙ c .if1 .taken)) ∙ c .before .before .before .before .loop .inv
+returns c =
+    let c3 = c .before .before .before in
+    let h = sym (c .before .entry-names .ensures) ∙ c .if1 .taken in
+    sym (any-found _ _ _ _ (c .before .before .element-at .ensures) (c3 .loop-test .taken) h) ∙ c3 .before .loop .inv
 
 returns-2 : tie.Need-returns-2 Inv-loop μ-loop
-returns-2 c = sym (any-broken _ _ _ _ (c .before .before .before .before .element-at .ensures) (c .before .before .before .before .before .loop-test .taken) (not-true _ (c .if2 .taken)) (sym (c .before .before .before .entry-names .ensures) ∙ c .before .before .if1 .left)) ∙ c .before .before .before .before .before .before .loop .inv
+returns-2 c =
+    let c3 = c .before .before .before in
+    let c6 = c3 .before .before .before in
+    let h = sym (c3 .entry-names .ensures) ∙ c .before .before .if1 .left in
+    sym (any-broken _ _ _ _ (c3 .before .element-at .ensures) (c3 .before .before .loop-test .taken) (not-true _ (c .if2 .taken)) h) ∙ c6 .loop .inv
 
 loop-less : tie.Need-loop-less Inv-loop μ-loop
-loop-less c = omega (arith, good-within (c .before .before .before .before .before .before .before .before .before .args .s .now) (c .before .before .before .before .before .before .loop .at) (c .before .before .before .before .before .before .before .before .before .args .entries .stop) (c .before .before .before .before .element-at .ensures) (not-false _ (c .if2 .left)))
+loop-less c =
+    let c4 = c .before .before .before .before in
+    let c9 = c4 .before .before .before .before .before in
+    let a = c9 .args in
+    omega (arith, good-within (a .s .now) (c4 .before .before .loop .at) (a .entries .stop) (c4 .element-at .ensures) (not-false _ (c .if2 .left)))
 
 loop-again : tie.Need-loop-again Inv-loop μ-loop
-loop-again c = sym (any-turn _ _ _ _ (c .before .before .before .before .element-at .ensures) (not-false _ (c .if2 .left)) (sym (c .before .before .before .entry-names .ensures) ∙ c .before .before .if1 .left)) ∙ c .before .before .before .before .before .before .loop .inv
+loop-again c =
+    let c3 = c .before .before .before in
+    let c6 = c3 .before .before .before in
+    let h = sym (c3 .entry-names .ensures) ∙ c .before .before .if1 .left in
+    sym (any-turn _ _ _ _ (c3 .before .element-at .ensures) (not-false _ (c .if2 .left)) h) ∙ c6 .loop .inv
 
 returns-3 : tie.Need-returns-3 Inv-loop μ-loop
 returns-3 c = sym (any-end _ _ _ _ (c .loop-test .left)) ∙ c .before .loop .inv

@@ -1,6 +1,5 @@
 -- `message::asks_form` meets its contract. Assumes nothing.
 use borrow.Author.Needs.{needs}
-use mathlib.Core.Path.{_≡_, refl, sym, ap, _∙_}
 use Rattle.message.specs.Rows.{asksForm}
 use Rattle.message.proofs.asks_form.Statement.{statement}
 use Rattle.message.proofs.asks_form.Tie as tie

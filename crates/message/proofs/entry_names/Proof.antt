@@ -1,6 +1,6 @@
 -- `message::entry_names` meets its contract. Assumes nothing.
 use borrow.Author.Needs.{needs}
-use mathlib.Core.Path.{_≡_, refl, sym, ap, _∙_}
+use mathlib.Core.Path.{sym, ap, _∙_}
 use Prim.Native.Nat.{ℕ}
 use mathlib.Core.List.{List}
 use Rattle.octets.specs.Octets.{same}
@@ -18,7 +18,12 @@ equal-requires : tie.Need-equal-requires
 equal-requires c κs = search needs
 
 returns-2 : tie.Need-returns-2
-returns-2 c = c .equal .ensures ∙ ap (λ (o : List ℕ). same o (c .before .before .before .before .before .before .before .before .args .serial .now)) (c .before .contents .ensures) ∙ sym (entry-single _ _ _ (c .before .before .before .before .if1 .left) (c .before .before .if2 .taken))
+returns-2 c =
+    let c4 = c .before .before .before .before in
+    let c8 = c4 .before .before .before .before in
+    c .equal .ensures
+    ∙ ap (λ (o : List ℕ). same o (c8 .args .serial .now)) (c .before .contents .ensures)
+    ∙ sym (entry-single _ _ _ (c4 .if1 .left) (c .before .before .if2 .taken))
 
 field-requires : tie.Need-field-requires
 field-requires c κs = search needs
@@ -36,7 +41,12 @@ block-names-requires : tie.Need-block-names-requires
 block-names-requires c κs = search needs
 
 returns-3 : tie.Need-returns-3
-returns-3 c = c .block-names .ensures ∙ sym (entry-block _ _ _ (c .before .before .before .before .before .before .before .if1 .left) (c .before .before .before .before .before .if2 .left) (c .before .before .before .before .field .ensures) (c .before .before .before .field-behind .ensures) (c .before .before .contents2 .ensures) (c .before .contents3 .ensures))
+returns-3 c =
+    let c3 = c .before .before .before in
+    let c7 = c3 .before .before .before .before in
+    c .block-names .ensures
+    ∙ sym
+    (entry-block _ _ _ (c7 .if1 .left) (c3 .before .before .if2 .left) (c3 .before .field .ensures) (c3 .field-behind .ensures) (c .before .before .contents2 .ensures) (c .before .contents3 .ensures))
 
 pub entry-names-spec : {M : Type 1} → statement M
 entry-names-spec =

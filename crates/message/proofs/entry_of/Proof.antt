@@ -1,6 +1,5 @@
 -- `message::entry_of` meets its contract. Assumes nothing.
 use borrow.Author.Needs.{needs}
-use mathlib.Core.Path.{_≡_, refl, sym, ap, _∙_}
 use Rattle.message.proofs.Fields.{entry-add, entry-certificate, entry-remove, entry-change}
 use Rattle.message.proofs.entry_of.Statement.{statement}
 use Rattle.message.proofs.entry_of.Tie as tie
@@ -12,7 +11,9 @@ field-requires : tie.Need-field-requires
 field-requires c κs = search needs
 
 returns : tie.Need-returns
-returns c = entry-add _ _ (c .before .before .before .before .if1 .taken) (c .before .before .before .element-at .ensures) (c .before .if2 .taken) (c .field .ensures)
+returns c =
+    let c3 = c .before .before .before in
+    entry-add _ _ (c3 .before .if1 .taken) (c3 .element-at .ensures) (c .before .if2 .taken) (c .field .ensures)
 
 returns-2 : tie.Need-returns-2
 returns-2 c = entry-certificate _ _ (c .before .before .before .if1 .taken) (c .before .before .element-at .ensures) (c .if2 .left)

@@ -1,6 +1,6 @@
 -- `message::has_too_many` meets its contract. Assumes nothing.
 use borrow.Author.Needs.{needs}
-use mathlib.Core.Path.{_≡_, refl, sym, ap, _∙_}
+use mathlib.Core.Path.{ap}
 use lib.Dec.{ltb}
 use Rattle.octets.specs.Limits.{maxUpdates}
 use Rattle.message.proofs.Fields.{entries-count}

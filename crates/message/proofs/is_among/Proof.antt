@@ -1,6 +1,6 @@
 -- `message::is_among` meets its contract. The loop's invariant: the search from here finds what the whole search finds. Assumes nothing.
 use mathlib.Core.Path.{_≡_, refl, sym, ap, _∙_}
-use Prim.Native.Nat.{_+_, _-_, _≤_, _<_}
+use Prim.Native.Nat.{_-_, _≤_}
 use native.Mathlib.Omega.{arith}
 use lib.ListN.{length, drop}
 use Rattle.octets.specs.Octets.{same, member}
@@ -39,21 +39,27 @@ equal-requires c κs = search needs
 
 returns : tie.Need-returns Inv-loop μ-loop
 returns c =
-    let a = c .before .before .before .before .before .before .before .before .before .before .args in
-    sym (among-found (a .o .now) (a .names .now) (c .before .before .before .before .before .before .before .loop .i) (c .before .before .before .before .before .before .loop-test .taken) (c .before .before .before .before .wide .ensures) (c .before .before .before .end-of .ensures)
+    let c3 = c .before .before .before in
+    let c6 = c3 .before .before .before in
+    let c10 = c6 .before .before .before .before in
+    let a = c10 .args in
+    sym (among-found (a .o .now) (a .names .now) (c6 .before .loop .i) (c6 .loop-test .taken) (c3 .before .wide .ensures) (c3 .end-of .ensures)
     (ap (same (a .o .now)) (sym (c .before .before .part .ensures)) ∙ sym (c .before .equal .ensures) ∙ c .if1 .taken))
-    ∙ c .before .before .before .before .before .before .before .loop .inv .0
+    ∙ c6 .before .loop .inv .0
 
 loop-less : tie.Need-loop-less Inv-loop μ-loop
 loop-less c = omega (arith, c .before .before .before .end-of .ensures)
 
 loop-again : tie.Need-loop-again Inv-loop μ-loop
 loop-again c =
-    let a = c .before .before .before .before .before .before .before .before .before .before .args in (
-      sym (among-turn (a .o .now) (a .names .now) (c .before .before .before .before .before .before .before .loop .i) (c .before .before .before .before .before .before .loop-test .taken) (c .before .before .before .before .wide .ensures) (c .before .before .before .end-of .ensures)
+    let c3 = c .before .before .before in
+    let c6 = c3 .before .before .before in
+    let c10 = c6 .before .before .before .before in
+    let a = c10 .args in (
+      sym (among-turn (a .o .now) (a .names .now) (c6 .before .loop .i) (c6 .loop-test .taken) (c3 .before .wide .ensures) (c3 .end-of .ensures)
           (ap (same (a .o .now)) (sym (c .before .before .part .ensures)) ∙ sym (c .before .equal .ensures) ∙ c .if1 .left))
-          ∙ c .before .before .before .before .before .before .before .loop .inv .0,
-      omega (arith, c .before .before .before .end-of .ensures),
+          ∙ c6 .before .loop .inv .0,
+      omega (arith, c3 .end-of .ensures),
     )
 
 returns-2 : tie.Need-returns-2 Inv-loop μ-loop

@@ -1,6 +1,6 @@
 -- `message::module_names` meets its contract. Assumes nothing.
 use borrow.Author.Needs.{needs}
-use mathlib.Core.Path.{_≡_, refl, sym, ap, _∙_}
+use mathlib.Core.Path.{sym, _∙_}
 use borrow.Author.Tests.{not-true, not-false}
 use Rattle.message.proofs.Aims.{module-other, module-same}
 use Rattle.message.proofs.module_names.Statement.{statement}
@@ -16,7 +16,9 @@ equal-requires : tie.Need-equal-requires
 equal-requires c κs = search needs
 
 returns : tie.Need-returns
-returns c = sym (module-other _ _ _ _ (c .before .before .before .field .ensures) (c .before .before .contents .ensures) (sym (c .before .equal .ensures) ∙ not-true _ (c .if1 .taken)))
+returns c =
+    let c3 = c .before .before .before in
+    sym (module-other _ _ _ _ (c3 .field .ensures) (c .before .before .contents .ensures) (sym (c .before .equal .ensures) ∙ not-true _ (c .if1 .taken)))
 
 field-requires-2 : tie.Need-field-requires-2
 field-requires-2 c κs = search needs
@@ -25,7 +27,10 @@ any-entry-requires : tie.Need-any-entry-requires
 any-entry-requires c κs = search needs
 
 returns-2 : tie.Need-returns-2
-returns-2 c = c .any-entry .ensures ∙ sym (module-same _ _ _ _ (c .before .before .before .before .before .field .ensures) (c .before .before .before .before .contents .ensures) (sym (c .before .before .before .equal .ensures) ∙ not-false _ (c .before .before .if1 .left)) (c .before .field2 .ensures))
+returns-2 c =
+    let c3 = c .before .before .before in
+    let h = sym (c3 .equal .ensures) ∙ not-false _ (c .before .before .if1 .left) in
+    c .any-entry .ensures ∙ sym (module-same _ _ _ _ (c3 .before .before .field .ensures) (c3 .before .contents .ensures) h (c .before .field2 .ensures))
 
 pub module-names-spec : {M : Type 1} → statement M
 module-names-spec =

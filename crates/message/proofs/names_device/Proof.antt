@@ -1,6 +1,6 @@
 -- `message::names_device` meets its contract. Assumes nothing.
 use borrow.Author.Needs.{needs}
-use mathlib.Core.Path.{_≡_, refl, sym, ap, _∙_}
+use mathlib.Core.Path.{sym, _∙_}
 use Rattle.message.proofs.Aims.{names-all, names-community, names-module}
 use Rattle.message.proofs.names_device.Statement.{statement}
 use Rattle.message.proofs.names_device.Tie as tie
@@ -12,7 +12,9 @@ any-community-requires : tie.Need-any-community-requires
 any-community-requires c κs = search needs
 
 returns-2 : tie.Need-returns-2
-returns-2 c = c .any-community .ensures ∙ sym (names-community _ _ _ _ _ (c .before .before .before .if1 .left) (c .before .if2 .taken))
+returns-2 c =
+    let c3 = c .before .before .before in
+    c .any-community .ensures ∙ sym (names-community _ _ _ _ _ (c3 .if1 .left) (c .before .if2 .taken))
 
 any-module-requires : tie.Need-any-module-requires
 any-module-requires c κs = search needs

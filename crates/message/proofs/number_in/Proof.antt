@@ -1,8 +1,5 @@
 -- `message::number_in` meets its contract. Assumes nothing.
 use borrow.Author.Needs.{needs}
-use mathlib.Core.Path.{_≡_, refl, sym, ap, _∙_}
-use lib.ListN.{take}
-use Rattle.octets.specs.Number.{number}
 use Rattle.message.proofs.number_in.Statement.{statement}
 use Rattle.message.proofs.number_in.Tie as tie
 

@@ -1,6 +1,6 @@
 -- `message::receive` meets its contract. Assumes nothing.
 use borrow.Author.Needs.{needs}
-use mathlib.Core.Path.{_≡_, refl, sym, ap, _∙_}
+use mathlib.Core.Path.{sym, _∙_}
 use Rattle.message.proofs.Rows.{received-opened, received-refused}
 use Rattle.message.proofs.receive.Statement.{statement}
 use Rattle.message.proofs.receive.Tie as tie
@@ -18,7 +18,9 @@ enum-known-r : tie.Need-enum-known-r
 enum-known-r c = search needs
 
 returns : tie.Need-returns
-returns c = c .unwrap .ensures ∙ sym (received-opened _ (sym (c .before .before .before .before .«open» .ensures) ∙ c .before .before .w .given .1))
+returns c =
+    let c4 = c .before .before .before .before in
+    c .unwrap .ensures ∙ sym (received-opened _ (sym (c4 .«open» .ensures) ∙ c .before .before .w .given .1))
 
 returns-2 : tie.Need-returns-2
 returns-2 c = sym (received-refused _ (sym (c .before .before .before .«open» .ensures) ∙ c .before .r .given .1))

@@ -1,6 +1,6 @@
 -- `message::target_octets` meets its contract. Assumes nothing.
 use borrow.Author.Needs.{needs}
-use mathlib.Core.Path.{_≡_, refl, sym, ap, _∙_}
+use mathlib.Core.Path.{ap, _∙_}
 use Rattle.der.specs.Element.{whole}
 use Rattle.message.proofs.target_octets.Statement.{statement}
 use Rattle.message.proofs.target_octets.Tie as tie

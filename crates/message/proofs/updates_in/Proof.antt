@@ -1,6 +1,5 @@
 -- `message::updates_in` meets its contract. Assumes nothing.
 use borrow.Author.Needs.{needs}
-use mathlib.Core.Path.{_≡_, refl, sym, ap, _∙_}
 use Rattle.message.specs.Fields.{updatesIn}
 use Rattle.message.proofs.updates_in.Statement.{statement}
 use Rattle.message.proofs.updates_in.Tie as tie

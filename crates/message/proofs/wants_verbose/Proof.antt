@@ -1,6 +1,6 @@
 -- `message::wants_verbose` meets its contract. Assumes nothing.
 use borrow.Author.Needs.{needs}
-use mathlib.Core.Path.{_≡_, refl, sym, ap, _∙_}
+use mathlib.Core.Path.{sym, _∙_}
 use borrow.Author.Tests.{not-true, not-false}
 use Rattle.message.proofs.Rows.{verbose-never, verbose-unless}
 use Rattle.message.proofs.wants_verbose.Statement.{statement}
@@ -16,7 +16,9 @@ field-requires : tie.Need-field-requires
 field-requires c κs = search needs
 
 returns-2 : tie.Need-returns-2
-returns-2 c = sym (verbose-unless _ _ _ (sym (c .before .before .before .asks-form .ensures) ∙ not-false _ (c .before .before .if1 .left)) (c .before .field .ensures))
+returns-2 c =
+    let c3 = c .before .before .before in
+    sym (verbose-unless _ _ _ (sym (c3 .asks-form .ensures) ∙ not-false _ (c .before .before .if1 .left)) (c .before .field .ensures))
 
 pub wants-verbose-spec : {M : Type 1} → statement M
 wants-verbose-spec = tie.close (tie.spec asks-form-requires returns field-requires returns-2)

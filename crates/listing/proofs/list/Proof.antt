@@ -1,0 +1,52 @@
+-- `listing::list` meets its contract. Assumes nothing.
+use borrow.Author.Needs.{needs}
+use native.Mathlib.Nat.{zero-add}
+use native.Mathlib.Omega.{arith}
+use mathlib.Core.Path.{ap}
+use lib.ListN.{length}
+use Rattle.octets.specs.Ascii.{ascii, codesFrom}
+use Rattle.listing.proofs.Texts.{good-listing, bad-listing}
+use Rattle.listing.proofs.Bounds.{listing-length}
+use Rattle.listing.proofs.list.Statement.{statement}
+use Rattle.listing.proofs.list.Tie as tie
+
+is-image-requires : tie.Need-is-image-requires
+is-image-requires c κs = search needs
+
+put-image-requires : tie.Need-put-image-requires
+put-image-requires c κs =
+    let i = c .before .before .before .before .args .image .now in
+    omega (arith, listing-length i, ap length (good-listing i (c .before .before .is-image .ensures) (c .before .if1 .taken)))
+
+returns : tie.Need-returns
+returns c =
+    let k₁ = c .before .before .before in
+    let k₂ = k₁ .before .before in
+    let i = k₂ .args .image .now in
+    rw (← good-listing i (k₁ .is-image .ensures) (c .before .before .if1 .taken)) (rw (zero-add) at (c .put-image .ensures))
+
+slice-aggregate-put-word : tie.Need-slice-aggregate-put-word
+slice-aggregate-put-word c = search needs
+
+put-word-requires : tie.Need-put-word-requires
+put-word-requires c κs = search needs
+
+returns-2 : tie.Need-returns-2
+unfolding ascii codesFrom
+returns-2 c =
+    let k₁ = c .before .before .before in
+    let k₂ = k₁ .before in
+    let k₃ = k₂ .before .before in
+    let i = k₃ .args .image .now in
+    rw (← bad-listing i (k₂ .is-image .ensures) (k₁ .if1 .left)) (c .put-word .ensures)
+
+pub list-spec : {M : Type 1} → statement M
+list-spec =
+    tie.close
+    (tie.spec
+    is-image-requires
+    put-image-requires
+    returns
+    slice-aggregate-put-word
+    put-word-requires
+    returns-2)

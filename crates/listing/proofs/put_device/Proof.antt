@@ -1,0 +1,76 @@
+-- `listing::put_device` meets its contract. Assumes nothing.
+use borrow.Author.Needs.{needs}
+use native.Mathlib.Omega.{arith}
+use mathlib.Core.List.{[], _∷_}
+use mathlib.Core.Path.{refl}
+use Rattle.octets.specs.Ascii.{ascii, codesFrom}
+use Rattle.store.specs.Listing.{hex}
+use Rattle.listing.specs.Texts.{deviceLine}
+use Rattle.listing.proofs.Texts.{device-is, device-length}
+use Rattle.listing.proofs.Turns.{left-start, left-step, last-step}
+use Rattle.listing.proofs.put_device.Statement.{statement}
+use Rattle.listing.proofs.put_device.Tie as tie
+
+slice-aggregate-put-word : tie.Need-slice-aggregate-put-word
+slice-aggregate-put-word c = search needs
+
+put-word-requires : tie.Need-put-word-requires
+put-word-requires c κs = omega (arith, device-length (c .before .before .before .before .args .image .now) refl refl)
+
+hw-type-requires : tie.Need-hw-type-requires
+hw-type-requires c κs = search needs
+
+put-hex-requires : tie.Need-put-hex-requires
+put-hex-requires c κs =
+    let i = c .before .before .before .before .before .before .before .before .before .args .image .now in
+    omega (arith, device-length i (c .hw-type .ensures) refl)
+
+put-octet-requires : tie.Need-put-octet-requires
+put-octet-requires c κs =
+    let i = c .before .before .before .before .before .before .before .before .before .before .before .before .before .args .image .now in
+    omega (arith, device-length i (c .before .before .before .before .hw-type .ensures) refl)
+
+serial-requires : tie.Need-serial-requires
+serial-requires c κs = search needs
+
+put-hex-line-requires : tie.Need-put-hex-line-requires
+put-hex-line-requires c κs =
+    let k = c .before .before .before .before .before .before .before .before .before in
+    let i = k .before .before .before .before .before .before .before .before .before .args .image .now in
+    omega (arith, device-length i (k .hw-type .ensures) (c .serial .ensures))
+
+same-length : tie.Need-same-length
+same-length c = search needs
+
+returns : tie.Need-returns
+unfolding ascii codesFrom
+returns c =
+    let k₁ = c .before .before .before in
+    let k₂ = k₁ .before .before .before .before in
+    let k₃ = k₂ .before .before .before .before in
+    let k₄ = k₃ .before in
+    let k₅ = k₄ .before .before .before .before in
+    let k₆ = k₅ .before .before .before .before .before in
+    let a = k₆ .args in
+    let b = a .buf .now in
+    let h = k₆ .pre in
+    let all = deviceLine (a .image .now) in
+    let e = device-is (a .image .now) (k₄ .hw-type .ensures) (k₁ .serial .ensures) in
+    let l₁ = left-step b (a .at) all h (left-start _ _ _) (ascii "device ") _ e (k₅ .put-word .ensures) in
+    let l₂ = left-step b (a .at) all h l₁ (hex (k₄ .hw-type .result .now)) _ refl (k₃ .put-hex .ensures) in
+    let l₃ = left-step b (a .at) all h l₂ (32 ∷ []) _ refl (k₂ .put-octet .ensures) in
+    last-step b (a .at) all h l₃ (c .before .before .put-hex-line .ensures)
+
+pub put-device-spec : {M : Type 1} → statement M
+put-device-spec =
+    tie.close
+    (tie.spec
+    slice-aggregate-put-word
+    put-word-requires
+    hw-type-requires
+    put-hex-requires
+    put-octet-requires
+    serial-requires
+    put-hex-line-requires
+    same-length
+    returns)

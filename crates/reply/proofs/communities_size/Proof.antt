@@ -1,0 +1,61 @@
+-- `reply::communities_size` meets its contract. Assumes nothing.
+use borrow.Author.Needs.{needs}
+use native.Mathlib.Omega.{arith}
+use mathlib.Core.Path.{sym, ap, _∙_}
+use lib.ListN.{length}
+use Rattle.reply.specs.Parts.{elementSize, communitiesFrom}
+use Rattle.reply.proofs.Members.{communities-none, communities-some}
+use Rattle.reply.proofs.Sizes.{length-element}
+use Rattle.reply.proofs.communities_size.Statement.{statement}
+use Rattle.reply.proofs.communities_size.Tie as tie
+
+community-count-requires : tie.Need-community-count-requires
+community-count-requires c κs = search needs
+
+returns : tie.Need-returns
+returns c = omega (arith, ap length (communities-none (c .before .before .before .args .image .now) (c .before .community-count .ensures) (c .if1 .taken)))
+
+community-octets-requires : tie.Need-community-octets-requires
+community-octets-requires c κs = search needs
+
+names-size-requires : tie.Need-names-size-requires
+names-size-requires c κs =
+    let a = c .before .before .before .before .args in
+    omega (
+      arith,
+      ap length (communities-some (a .image .now) (c .before .before .community-count .ensures) (c .before .if1 .left)
+          (c .community-octets .ensures)),
+      length-element 0x30 (communitiesFrom (c .before .before .community-count .result) (c .community-octets .result .now)),
+    )
+
+element-size-requires : tie.Need-element-size-requires
+element-size-requires c κs =
+    let a = c .before .before .before .before .before .args in
+    omega (
+      arith,
+      c .names-size .ensures,
+      ap length (communities-some (a .image .now) (c .before .before .before .community-count .ensures)
+          (c .before .before .if1 .left)
+          (c .before .community-octets .ensures)),
+      length-element 0x30 (communitiesFrom (c .before .before .before .community-count .result)
+          (c .before .community-octets .result .now)),
+    )
+
+returns-2 : tie.Need-returns-2
+returns-2 c =
+    let a = c .before .before .before .before .before .before .args in
+    let l = communitiesFrom (c .before .before .before .before .community-count .result) (c .before .before .community-octets .result .now) in
+    c .element-size .ensures .0 ∙ ap elementSize (c .before .names-size .ensures) ∙ sym (ap length (communities-some (a .image .now)
+    (c .before .before .before .before .community-count .ensures) (c .before .before .before .if1 .left)
+    (c .before .before .community-octets .ensures)) ∙ length-element 0x30 l)
+
+pub communities-size-spec : {M : Type 1} → statement M
+communities-size-spec =
+    tie.close
+    (tie.spec
+    community-count-requires
+    returns
+    community-octets-requires
+    names-size-requires
+    element-size-requires
+    returns-2)
