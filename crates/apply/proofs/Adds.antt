@@ -1,0 +1,172 @@
+-- 01, After acceptance, add: one law for each way through its checks.
+use Prim.Native.Nat.{ℕ, _≤_, _<_}
+use native.Mathlib.Omega.{arith}
+use mathlib.Core.Bool.{Bool, true, false}
+use mathlib.Core.List.{List, [], _∷_, _++_, map, append-assoc, append-nil}
+use mathlib.Core.Path.{_≡_, refl, sym, ap, _∙_}
+use lib.ListN.{length, take}
+use borrow.Author.Tests.{le-leb, lt-leb, eq-eqb, ne-eqb}
+use Rattle.octets.specs.declared.Status.{Status}
+use Rattle.octets.specs.Status.{success, notAuthorized, insufficientMemory, improperTAAddition}
+use Rattle.octets.specs.First.{givenIf}
+use Rattle.octets.specs.Lists.{anyOf}
+use Rattle.rights.specs.Rights.{Rights}
+use Rattle.rights.specs.Decision.{within}
+use Rattle.anchor.specs.Info.{publicKey, rightsOf}
+use Rattle.anchor.specs.Judge.{judge, statusOf as judgedStatus, passes}
+use Rattle.store.specs.declared.Sought.{Sought}
+use Rattle.store.specs.declared.Sought.the-variants.{PublicKey, Info}
+use Rattle.store.specs.Store.{Anchor, Store, anchors}
+use Rattle.store.specs.Image.{wellFormed}
+use Rattle.store.specs.Records.{recordsOf}
+use Rattle.store.specs.Parts.{anchorCount, infoIn, isSought}
+use Rattle.store.proofs.Formats.{rules, from-rules}
+use Rattle.edit.specs.Steps.{withOthers, oneMore}
+use Rattle.protocol.specs.Update.{Step, unnumbered, unchanged, added}
+use Rattle.protocol.proofs.Lists.{anyOf-map}
+use Rattle.protocol.proofs.WellFormed.{GoodAnchors, good-added}
+use Rattle.apply.specs.declared.Applied.the-variants.{Done, Failed}
+use Rattle.apply.specs.Scratch.{Holds, Scratch, HoldsBoth}
+use Rattle.apply.specs.Edits.{Growable, Appends}
+use Rattle.apply.specs.Entry.{Applies, Conforming}
+use Rattle.apply.proofs.Held.{infos-are, counted}
+
+-- other anchors behind the apex, of which the rules for anchors hold
+pub with-anchors : (σ : Store) (l : List Anchor) → wellFormed σ ≡ true → GoodAnchors (σ .apex ∷ l) → wellFormed (withOthers l σ) ≡ true
+with-anchors σ l g a =
+    let p = rules σ g in
+    from-rules (withOthers l σ)
+    (record {
+      hwType = p .hwType;
+      hwType-oid = p .hwType-oid;
+      serial = p .serial;
+      anchor-count = a .count;
+      each-anchor = a .each;
+      keys = a .keys;
+      community-count = p .community-count;
+      each-community = p .each-community;
+      communities = p .communities;
+    })
+
+pub good-anchors : (σ : Store) → wellFormed σ ≡ true → GoodAnchors (anchors σ)
+good-anchors σ g =
+    let p = rules σ g in
+    record { count = p .anchor-count; each = p .each-anchor; keys = p .keys }
+
+-- a step that changes nothing
+pub unmoved : (f : Anchor → List Anchor → List Anchor → Step) {d : List ℕ} {len k : ℕ} {status : Status}
+    → ((σ : Store) (old new : List Anchor) → HoldsBoth σ old new d len k → f (σ .apex) old new ≡ unchanged status old new)
+    → Applies f d len k (Failed status) d
+unmoved f {d} {len} {k} {status} e =
+    record {
+      room = refl;
+      does = λ σ old new h.
+          rw (e σ old new h)
+          (record { status = refl; after = h });
+    }
+
+module _ (rights : Rights) (t : List ℕ) where
+  abbrev adding : Anchor → List Anchor → List Anchor → Step
+  adding apex old new = added rights apex old new t
+
+  module _ (d : List ℕ) (len : ℕ) where
+    -- 34, and 17 for size
+    pub add-judged : {k : ℕ} {status : Status} → status ≡ judgedStatus (judge t) → (status .number ≡ 0 → ⊥) → Applies adding d len k (Failed status) d
+    unfolding added givenIf
+    add-judged {k} {status} e n =
+        unmoved adding (λ σ old new h.
+        let f : passes (judge t) ≡ false = ne-eqb _ _ (λ z. n (ap (λ (s : Status). s .number) e ∙ z)) in
+        rw (f, e))
+
+    module _ {status : Status} (e : status ≡ judgedStatus (judge t)) (z : status .number ≡ 0) where
+      pass : passes (judge t) ≡ true
+      pass = eq-eqb _ _ (sym (ap (λ (s : Status). s .number) e) ∙ z)
+
+      -- 11
+      pub add-outside : {k : ℕ} {b : Bool} → b ≡ within rights (rightsOf t) → b ≡ false → Applies adding d len k (Failed notAuthorized) d
+      unfolding added givenIf
+      add-outside p q = unmoved adding (λ σ old new h. rw (pass, sym p ∙ q))
+
+      module _ {b : Bool} (p : b ≡ within rights (rightsOf t)) (q : b ≡ true) where
+        in-signer : within rights (rightsOf t) ≡ true
+        in-signer = sym p ∙ q
+
+        -- what is stored is what the image has
+        among : (by : Sought) (wanted : List ℕ) (σ : Store) (old new : List Anchor) → Holds (withOthers (old ++ new) σ) d len → {a : Bool}
+            → a ≡ anyOf (isSought by wanted) (map infoIn (recordsOf (take len d))) → anyOf (λ b. isSought by wanted (b .info)) (σ .apex ∷ (old ++ new)) ≡ a
+        among by wanted σ old new h e =
+            sym (anyOf-map (isSought by wanted) (λ b. b .info) (σ .apex ∷ (old ++ new)))
+            ∙ ap (anyOf (isSought by wanted)) (sym (infos-are (withOthers (old ++ new) σ) d len h))
+            ∙ sym e
+
+        -- "0 with no change if the same octets are stored"
+        pub add-same : {k : ℕ} {a : Bool} → a ≡ anyOf (isSought Info t) (map infoIn (recordsOf (take len d))) → a ≡ true → Applies adding d len k (Done len k) d
+        unfolding added givenIf isSought
+        add-same e y =
+            record {
+              room = refl;
+              does = λ σ old new h.
+                  let f : adding (σ .apex) old new ≡ unchanged success old new = rw (pass, in-signer, among Info t σ old new (h .holds) e ∙ y) in
+                  rw f (record { status = refl; after = h });
+            }
+
+        module _ {a : Bool} (e₁ : a ≡ anyOf (isSought Info t) (map infoIn (recordsOf (take len d)))) (n₁ : a ≡ false) where
+          -- "20 if the public key is stored otherwise"
+          pub add-key : {k : ℕ} {key : List ℕ} → key ≡ publicKey t → {a : Bool} → a ≡ anyOf (isSought PublicKey key) (map infoIn (recordsOf (take len d))) → a ≡ true
+              → Applies adding d len k (Failed improperTAAddition) d
+          unfolding added givenIf isSought
+          add-key q e y =
+              unmoved adding (λ σ old new h.
+              rw (pass, in-signer, among Info t σ old new (h .holds) e₁ ∙ n₁, ← q, among PublicKey _ σ old new (h .holds) e ∙ y))
+
+          module _ {key : List ℕ} (q₂ : key ≡ publicKey t) {a₂ : Bool} (e₂ : a₂ ≡ anyOf (isSought PublicKey key) (map infoIn (recordsOf (take len d)))) (n₂ : a₂ ≡ false) where
+            -- "17 at 32 anchors"
+            pub add-full : {k n : ℕ} → n ≡ anchorCount (take len d) → 32 ≤ n → Applies adding d len k (Failed insufficientMemory) d
+            unfolding added givenIf isSought
+            add-full c y =
+                unmoved adding (λ σ old new h.
+                let l : 32 ≤ length (σ .apex ∷ (old ++ new)) = omega (arith, c, counted (withOthers (old ++ new) σ) d len (h .holds)) in
+                rw (pass, in-signer, among Info t σ old new (h .holds) e₁ ∙ n₁, ← q₂, among PublicKey _ σ old new (h .holds) e₂ ∙ n₂, le-leb 32 (length (σ .apex ∷ (old ++ new))) l))
+
+            module _ {n : ℕ} (c : n ≡ anchorCount (take len d)) (room : n < 32) (conforming : Conforming t) where
+              -- "else appended without a number, 0"
+              appended : (σ : Store) (old new : List Anchor) → Holds (withOthers (old ++ new) σ) d len
+                  → adding (σ .apex) old new ≡ record { status = success; old = old; new = new ++ (unnumbered t ∷ []) }
+              unfolding added givenIf isSought
+              appended σ old new h =
+                  let l : length (σ .apex ∷ (old ++ new)) < 32 = omega (arith, c, counted (withOthers (old ++ new) σ) d len h) in
+                  rw (pass, in-signer, among Info t σ old new h e₁ ∙ n₁, ← q₂, among PublicKey _ σ old new h e₂ ∙ n₂, lt-leb 32 (length (σ .apex ∷ (old ++ new))) l)
+
+              fits : (σ : Store) (old new : List Anchor) → Holds (withOthers (old ++ new) σ) d len → wellFormed (oneMore t (withOthers (old ++ new) σ)) ≡ true
+              fits σ old new h =
+                  let g = good-added rights (σ .apex) old new t conforming (good-anchors (withOthers (old ++ new) σ) (h .good)) in
+                  with-anchors (withOthers (old ++ new) σ) ((old ++ new) ++ (unnumbered t ∷ [])) (h .good)
+                  (rw (append-assoc old new (unnumbered t ∷ [])) (rw (appended σ old new h) at g))
+
+              -- an anchor more has room
+              pub add-grows : Scratch d len → Growable d len t
+              add-grows w =
+                  let σ = w .store in
+                  let e = append-nil (σ .others) in
+                  record {
+                    room = w .room;
+                    store = σ;
+                    holds = w .holds;
+                    fits = rw e at (fits σ (σ .others) [] (rw e (w .holds)));
+                  }
+
+              pub add-appends : {k r : ℕ} {d′ : List ℕ} → Appends d len t r d′ → Applies adding d len k (Done r k) d′
+              add-appends w =
+                  record {
+                    room = w .room;
+                    does = λ σ old new h.
+                        rw (appended σ old new (h .holds))
+                        (record {
+                          status = refl;
+                          after =
+                              record {
+                                holds = rw (← append-assoc old new (unnumbered t ∷ [])) (w .appends (withOthers (old ++ new) σ) (h .holds) (fits σ old new (h .holds)));
+                                count = h .count;
+                              };
+                        });
+                  }

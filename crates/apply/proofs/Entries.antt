@@ -1,0 +1,125 @@
+-- 01, After acceptance, Update: an entry by its cases.
+use Prim.Native.Nat.{ℕ, _<_}
+use mathlib.Core.List.{List, _++_}
+use mathlib.Core.Path.{_≡_, sym, ap, _∙_}
+use lib.Dec.{lit<}
+use Rattle.octets.specs.declared.Status.{Status}
+use Rattle.octets.specs.Status.{unsupportedTrustAnchorFormat, improperTAChange}
+use Rattle.der.specs.declared.Element.{Element}
+use Rattle.der.specs.Element.{whole}
+use Rattle.rights.specs.Rights.{Rights}
+use Rattle.anchor.specs.declared.Judged.{Judged}
+use Rattle.anchor.specs.declared.Judged.the-variants as judged
+use Rattle.anchor.specs.Judge.{judge, statusOf as judgedStatus}
+use Rattle.store.specs.Store.{Anchor}
+use Rattle.edit.specs.Steps.{withOthers}
+use Rattle.message.specs.declared.Entry.{Entry}
+use Rattle.message.specs.declared.Entry.the-variants as entry
+use Rattle.message.specs.Fields.{keyIn}
+use Rattle.protocol.specs.Update.{Step, added, removed, step}
+use Rattle.protocol.proofs.Lists.{by-given}
+use Rattle.apply.specs.declared.Applied.{Applied}
+use Rattle.apply.specs.declared.Applied.the-variants.{Done, Failed}
+use Rattle.apply.specs.Scratch.{Scratch, ScratchBoth}
+use Rattle.apply.specs.Entry.{statusOf, Applies, Enters, Conforming, Adding, untagged}
+use Rattle.apply.proofs.Adds.{unmoved}
+
+module _ (s : List ℕ) where
+  pub adding-conforms : {x : Entry} {e : Element} {t : List ℕ} → Adding s x → x ≡ entry.Add e → t ≡ whole s e → Conforming t
+  adding-conforms a q w = rw w (rw q at a)
+
+  module _ (rights : Rights) {d : List ℕ} {len k : ℕ} {x : Entry} where
+    pub step-add : {e : Element} {t : List ℕ} {r : Applied} {d′ : List ℕ} → x ≡ entry.Add e → t ≡ whole s e
+        → Applies (λ apex old new. added rights apex old new t) d len k r d′ → Applies (λ apex old new. step s rights apex old new x) d len k r d′
+    unfolding step
+    step-add q w h = rw q (rw w at h)
+
+    pub step-certificate : x ≡ entry.AddCertificate → Applies (λ apex old new. step s rights apex old new x) d len k (Failed unsupportedTrustAnchorFormat) d
+    unfolding step judgedStatus
+    step-certificate q = unmoved (λ apex old new. step s rights apex old new x) (λ σ old new h. rw q)
+
+    pub step-remove : {e : Element} {t : List ℕ} {r : Applied} {d′ : List ℕ} → x ≡ entry.Remove e → t ≡ whole s e
+        → Applies (λ apex old new. removed rights apex old new (untagged t)) d len k r d′ → Applies (λ apex old new. step s rights apex old new x) d len k r d′
+    unfolding step keyIn
+    step-remove q w h = rw q (rw w at h)
+
+    pub step-change : x ≡ entry.Change → Applies (λ apex old new. step s rights apex old new x) d len k (Failed improperTAChange) d
+    unfolding step
+    step-change q = unmoved (λ apex old new. step s rights apex old new x) (λ σ old new h. rw q)
+
+-- every status of an entry is an octet
+module _ (s : List ℕ) (rights : Rights) (apex : Anchor) (old new : List Anchor) where
+  abbrev Small : Step → Type 0
+  Small done = done .status .number < 256
+
+  judged-small : (j : Judged) → judgedStatus j .number < 256
+  unfolding judgedStatus
+  judged-small judged.Passes = lit< tt
+  judged-small judged.CertificateForm = lit< tt
+  judged-small judged.OtherVersion = lit< tt
+  judged-small judged.CertPath = lit< tt
+  judged-small judged.RepeatedExtension = lit< tt
+  judged-small judged.CriticalExtension = lit< tt
+  judged-small judged.ConstraintsSyntax = lit< tt
+  judged-small judged.RepeatedConstraint = lit< tt
+  judged-small judged.AnyContentTypeEntry = lit< tt
+  judged-small judged.AnchorOctets = lit< tt
+  judged-small judged.KeyIdentifierOctets = lit< tt
+  judged-small judged.EntryCount = lit< tt
+  judged-small judged.AttributeCount = lit< tt
+  judged-small judged.ValueCount = lit< tt
+  judged-small judged.ValueOctets = lit< tt
+
+  added-small : (t : List ℕ) → Small (added rights apex old new t)
+  unfolding added
+  added-small t =
+      by-given Small _ (λ _. judged-small (judge t)) (λ _.
+      by-given Small _ (λ _. lit< tt) (λ _.
+      by-given Small _ (λ _. lit< tt) (λ _.
+      by-given Small _ (λ _. lit< tt) (λ _.
+      by-given Small _ (λ _. lit< tt) (λ _. lit< tt)))))
+
+  removed-small : (key : List ℕ) → Small (removed rights apex old new key)
+  unfolding removed
+  removed-small key =
+      by-given Small _ (λ _. lit< tt) (λ _.
+      by-given Small _ (λ _. lit< tt) (λ _.
+      by-given Small _ (λ _. lit< tt) (λ _. lit< tt)))
+
+  pub step-small : (x : Entry) → Small (step s rights apex old new x)
+  unfolding step
+  step-small (entry.Add e) = added-small (whole s e)
+  step-small entry.AddCertificate = judged-small judged.CertificateForm
+  step-small (entry.Remove e) = removed-small (keyIn s e)
+  step-small entry.Change = lit< tt
+
+pub scratch-of : {d : List ℕ} {len k : ℕ} → ScratchBoth d len k → Scratch d len
+scratch-of w = record { room = w .room; store = withOthers (w .old ++ w .new) (w .store); holds = w .holds .holds }
+
+-- what an entry comes to, by its answer
+module _ (s : List ℕ) (rights : Rights) (d : List ℕ) (len k : ℕ) {x y : Entry} {r : Applied} {d′ : List ℕ} (q : x ≡ y)
+    (a : Applies (λ apex old new. step s rights apex old new x) d len k r d′) where
+  pub enter-small : ScratchBoth d len k → statusOf r .number < 256
+  enter-small w =
+      rw (a .does (w .store) (w .old) (w .new) (w .holds) .status) (step-small s rights (w .store .apex) (w .old) (w .new) x)
+
+  pub enter-failed : {status : Status} {code : ℕ} → r ≡ Failed status → code ≡ statusOf r .number
+      → Enters (λ apex old new. step s rights apex old new y) d len k (record { code = code; len = len; old = k }) d′
+  enter-failed e c =
+      record {
+        room = a .room;
+        does = λ σ old new h.
+            let l = a .does σ old new h in
+            rw (← q)
+            (record { code = c ∙ ap (λ (v : Status). v .number) (l .status); after = rw e at (l .after) });
+      }
+
+  pub enter-done : {n m : ℕ} → r ≡ Done n m → Enters (λ apex old new. step s rights apex old new y) d len k (record { code = 0; len = n; old = m }) d′
+  enter-done e =
+      record {
+        room = a .room;
+        does = λ σ old new h.
+            let l = a .does σ old new h in
+            rw (← q)
+            (record { code = ap (λ (v : Status). v .number) (sym (ap statusOf e) ∙ l .status); after = rw e at (l .after) });
+      }

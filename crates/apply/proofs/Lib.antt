@@ -1,0 +1,17 @@
+pub mod Edits
+pub mod Image
+pub mod Held
+pub mod Adds
+pub mod Found
+pub mod Removes
+pub mod Entries
+pub mod Runs
+pub mod Entering
+pub mod Numbers
+pub mod Signer
+pub mod Pairs
+pub mod Updates
+pub mod Oids
+pub mod Sections
+pub mod Additions
+pub mod TwoLists

@@ -1,0 +1,262 @@
+-- 01, After acceptance, Update: "tampSeqNumbers in order: each sets the number of every anchor with that identifier that this message appended and that still stands".
+use Prim.Native.Nat.{ℕ, suc, _+_, _≤_, _<_}
+use native.Mathlib.Omega.{arith}
+use mathlib.Core.Bool.{Bool, true, false}
+use mathlib.Core.List.{List, [], _∷_, _++_, map, append-assoc, append-nil}
+use mathlib.Core.Option.{some}
+use mathlib.Core.Path.{_≡_, refl, sym, ap, ap₂, _∙_}
+use lib.ListN.{length, take, length-append}
+use Rattle.octets.specs.Limits.{maxNumber}
+use Rattle.octets.specs.Octets.{same, placed}
+use Rattle.octets.proofs.Lists.{both}
+use Rattle.octets.proofs.Placed.{length-placed}
+use Rattle.store.specs.Store.{Anchor, Store, anchors, identifierOf}
+use Rattle.store.specs.Image.{encodeAnchor, encodeNumber, wellFormed}
+use Rattle.store.specs.Parts.{anchorCount, firstRecord, recordEnd, recordAt, recordPlace, infoIn, identifierIn}
+use Rattle.store.proofs.Formats.{rules}
+use Rattle.store.proofs.Sizes.{length-encodeNumber, length-encodeAnchor}
+use Rattle.edit.specs.Places.{countAt, placeOf}
+use Rattle.edit.specs.Steps.{withOthers}
+use Rattle.edit.proofs.Sections.{size, size-more}
+use Rattle.edit.proofs.Places.{place-of, place-inside}
+use Rattle.edit.proofs.Anchors.{number-law, count-stays}
+use Rattle.protocol.specs.Update.{numbered, stamped}
+use Rattle.protocol.specs.Effect.{withNumber}
+use Rattle.protocol.proofs.WellFormed.{Good, good-withNumber}
+use Rattle.apply.specs.Scratch.{Holds, HoldsBoth, ScratchBoth}
+use Rattle.apply.specs.Edits.{Stampable, Stamps, Renumbers}
+use Rattle.apply.proofs.Edits.{numberSet-at}
+use Rattle.apply.proofs.Image as image
+use Rattle.apply.proofs.Held.{end-before, counted, place-is, record-end-is}
+use Rattle.apply.proofs.Adds.{with-anchors, good-anchors}
+
+good-of : (σ : Store) → wellFormed σ ≡ true → Good σ
+good-of σ g =
+    let p = rules σ g in
+    record {
+      of-device = both (both (p .hwType) (p .hwType-oid)) (p .serial);
+      of-anchors = good-anchors σ g;
+      of-communities = record { count = p .community-count; each = p .each-community; apart = p .communities };
+    }
+
+numbered-good : (σ : Store) (x y : List Anchor) (a : Anchor) (n : ℕ) → σ .others ≡ x ++ (a ∷ y) → n ≤ maxNumber → wellFormed σ ≡ true
+    → wellFormed (withOthers (x ++ (numbered n a ∷ y)) σ) ≡ true
+unfolding withNumber
+numbered-good σ x y a n e b g =
+    let w = good-withNumber (suc (length x)) n σ b (good-of σ g) .of-anchors in
+    with-anchors σ (x ++ (numbered n a ∷ y)) g (rw (e, numberSet-at n x y a) at w)
+
+-- one anchor
+
+module _ {d : List ℕ} {len p n : ℕ} (w : Stampable d len p n) where
+  pub stamp-inside : p + 9 ≤ length d
+  stamp-inside =
+      let σ = w .store in
+      let i = place-inside σ (σ .apex ∷ w .before) (w .behind) (w .anchor) (ap (λ (l : List Anchor). σ .apex ∷ l) (w .parts)) in
+      omega (arith, w .place, i .1, end-before σ d len (w .holds), w .holds .inside)
+
+  module _ {found : List ℕ} (f : found ≡ identifierIn (recordAt (take len d) p)) (id : List ℕ) {b : Bool} (s : b ≡ same found id) where
+    identified : (σ : Store) (x y : List Anchor) (a : Anchor) → Holds σ d len → σ .others ≡ x ++ (a ∷ y) → p ≡ placeOf σ (suc (length x))
+        → same (identifierOf a) id ≡ b
+    identified σ x y a h e q =
+        let i : infoIn (recordAt (take len d) p) ≡ a .info =
+        ap (λ (j : ℕ). infoIn (recordAt (take len d) j)) q
+        ∙ ap (λ (r : List ℕ). infoIn (recordAt r (placeOf σ (suc (length x))))) (h .image)
+        ∙ image.info-here σ (h .good) (σ .apex ∷ x) y a (ap (λ (l : List Anchor). σ .apex ∷ l) e)
+        in
+        ap (λ (r : List ℕ). same r id) (sym (f ∙ ap (λ (t : List ℕ). identifierOf (record { number = a .number; info = t })) i)) ∙ sym s
+
+    pub stamp-other : b ≡ false → Stamps d len p id n d
+    unfolding stamped
+    stamp-other z =
+        record {
+          room = refl;
+          stamps = λ σ x y a h e q.
+              let t : stamped (id, n) a ≡ a = rw (identified σ x y a h e q ∙ z, stamped) in
+              rw (t, ← e) h;
+        }
+
+    pub stamp-set : b ≡ true → {d′ : List ℕ} → d′ ≡ placed d p (encodeNumber (some n)) → Stamps d len p id n d′
+    unfolding stamped
+    stamp-set z {d′} k =
+        let l : length d′ ≡ length d = ap length k ∙ length-placed d p (encodeNumber (some n)) (omega (arith, length-encodeNumber (some n), stamp-inside)) in
+        record {
+          room = l;
+          stamps = λ σ x y a h e q.
+              let t : stamped (id, n) a ≡ numbered n a = rw (identified σ x y a h e q ∙ z, stamped) in
+              rw t
+              (record {
+                image =
+                    ap (take len) (k ∙ ap (λ (j : ℕ). placed d j (encodeNumber (some n))) q)
+                    ∙ number-law σ d len (h .image) (h .inside) x y a e n;
+                inside = omega (arith, h .inside);
+                good = numbered-good σ x y a n e (w .small) (h .good);
+              });
+        }
+
+-- the anchors behind the old ones, one after the other
+
+first-of : {A : Type 0} (l : List A) → 1 ≤ length l → (a : A) × (r : List A) × (l ≡ a ∷ r)
+first-of [] h = absurd (omega arith)
+first-of (a ∷ r) h = (a, r, refl)
+
+none-of : {A : Type 0} (l : List A) → length l ≤ 0 → l ≡ []
+none-of [] h = refl
+none-of (a ∷ r) h = absurd (omega arith)
+
+module _ (id : List ℕ) (n : ℕ) (d₀ : List ℕ) (len k count : ℕ) where
+  abbrev set : Anchor → Anchor
+  set = stamped (id, n)
+
+  -- `done` have been seen, `rest` have not
+  pub record Seen (σ : Store) (old new : List Anchor) (d : List ℕ) (j p : ℕ) : Type 0 where
+    pub done : List Anchor
+    pub rest : List Anchor
+    pub parts : map set new ≡ done ++ map set rest
+    pub holds : HoldsBoth σ old (done ++ rest) d len k
+    pub at : j ≡ suc (k + length done)
+    pub left : count ≡ j + length rest
+    pub place : p ≡ countAt σ + 1 + size encodeAnchor (σ .apex ∷ (old ++ done))
+
+  pub record Stamping (d : List ℕ) (j p : ℕ) : Type 0 where
+    pub room : length d ≡ length d₀
+    pub seen : (σ : Store) (old new : List Anchor) → HoldsBoth σ old new d₀ len k → Seen σ old new d j p
+
+  pub stamping-start : count ≡ anchorCount (take len d₀) → {p : ℕ} → p ≡ recordPlace (take len d₀) (firstRecord (take len d₀)) (k + 1) → Stamping d₀ (k + 1) p
+  stamping-start c {p} q =
+      record {
+        room = refl;
+        seen = λ σ old new h.
+            let τ = withOthers (old ++ new) σ in
+            let l : k + 1 ≡ length (σ .apex ∷ old) = omega (arith, h .count) in
+            let inside : length (σ .apex ∷ old) ≤ length (anchors τ) = omega (arith, length-append old new) in
+            record {
+              done = [];
+              rest = new;
+              parts = refl;
+              holds = h;
+              at = omega arith;
+              left = omega (arith, c, counted τ d₀ len (h .holds), length-append old new, h .count);
+              place =
+                  q
+                  ∙ ap (recordPlace (take len d₀) (firstRecord (take len d₀))) l
+                  ∙ place-is τ d₀ len (h .holds) (length (σ .apex ∷ old)) inside
+                  ∙ place-of τ (σ .apex ∷ old) new refl
+                  ∙ ap₂ (λ (x : ℕ) (r : List Anchor). x + 1 + size encodeAnchor (σ .apex ∷ r)) (count-stays σ (old ++ new)) (sym (append-nil old));
+            };
+      }
+
+  -- the next one
+  record Next (σ : Store) (old new : List Anchor) (d : List ℕ) (j p : ℕ) (v : Seen σ old new d j p) : Type 0 where
+    anchor : Anchor
+    behind : List Anchor
+    rest : v .rest ≡ anchor ∷ behind
+    parts : old ++ (v .done ++ v .rest) ≡ (old ++ v .done) ++ (anchor ∷ behind)
+    place : p ≡ placeOf (withOthers (old ++ (v .done ++ v .rest)) σ) (suc (length (old ++ v .done)))
+
+  next : (σ : Store) (old new : List Anchor) (d : List ℕ) (j p : ℕ) (v : Seen σ old new d j p) → j < count → Next σ old new d j p v
+  next σ old new d j p v h =
+      let f = first-of (v .rest) (omega (arith, v .left)) in
+      let l = old ++ (v .done ++ v .rest) in
+      let e : l ≡ (old ++ v .done) ++ (f .0 ∷ f .1) = ap (λ (r : List Anchor). old ++ (v .done ++ r)) (f .2) ∙ sym (append-assoc old (v .done) (f .0 ∷ f .1)) in
+      record {
+        anchor = f .0;
+        behind = f .1;
+        rest = f .2;
+        parts = e;
+        place =
+            v .place
+            ∙ ap (λ (x : ℕ). x + 1 + size encodeAnchor (σ .apex ∷ (old ++ v .done))) (sym (count-stays σ l))
+            ∙ sym (place-of (withOthers l σ) (σ .apex ∷ (old ++ v .done)) (f .0 ∷ f .1) (ap (λ (r : List Anchor). σ .apex ∷ r) e));
+      }
+
+  module _ {d : List ℕ} {j p : ℕ} (w : Stamping d j p) where
+    pub stamping-scratch : ScratchBoth d₀ len k → len ≤ length d
+    stamping-scratch s = omega (arith, w .room, s .holds .holds .inside)
+
+    pub stamping-few : ScratchBoth d₀ len k → j ≤ count → j ≤ 32
+    stamping-few s h =
+        let v = w .seen (s .store) (s .old) (s .new) (s .holds) in
+        let τ = withOthers (s .old ++ (v .done ++ v .rest)) (s .store) in
+        omega (
+          arith,
+          rules τ (v .holds .holds .good) .anchor-count,
+          length-append (s .old) (v .done ++ v .rest),
+          length-append (v .done) (v .rest),
+          v .at,
+          v .holds .count,
+        )
+
+    module _ (more : j < count) where
+      pub stamping-able : ScratchBoth d₀ len k → n ≤ maxNumber → Stampable d len p n
+      stamping-able s b =
+          let σ = s .store in
+          let v = w .seen σ (s .old) (s .new) (s .holds) in
+          let m = next σ (s .old) (s .new) d j p v more in
+          record {
+            store = withOthers (s .old ++ (v .done ++ v .rest)) σ;
+            holds = v .holds .holds;
+            before = s .old ++ v .done;
+            anchor = m .anchor;
+            behind = m .behind;
+            parts = m .parts;
+            place = m .place;
+            small = b;
+          }
+
+      module _ {d′ : List ℕ} (s : Stamps d len p id n d′) {p′ : ℕ} (q : p′ ≡ recordEnd (take len d′) p) where
+        seen-on : (σ : Store) (old new : List Anchor) → Seen σ old new d j p → Seen σ old new d′ (j + 1) p′
+        seen-on σ old new v =
+            let m = next σ old new d j p v more in
+            let a = set (m .anchor) in
+            let x = old ++ v .done in
+            let e : x ++ (a ∷ m .behind) ≡ old ++ ((v .done ++ (a ∷ [])) ++ m .behind) =
+            append-assoc old (v .done) (a ∷ m .behind) ∙ ap (λ (r : List Anchor). old ++ r) (sym (append-assoc (v .done) (a ∷ []) (m .behind)))
+            in
+            let h : Holds (withOthers (x ++ (a ∷ m .behind)) σ) d′ len =
+            s .stamps (withOthers (old ++ (v .done ++ v .rest)) σ) x (m .behind) (m .anchor) (v .holds .holds) (m .parts) (m .place)
+            in
+            let τ = withOthers (x ++ (a ∷ m .behind)) σ in
+            let here : p ≡ placeOf τ (suc (length x)) =
+            v .place
+            ∙ ap (λ (c : ℕ). c + 1 + size encodeAnchor (σ .apex ∷ x)) (sym (count-stays σ (x ++ (a ∷ m .behind))))
+            ∙ sym (place-of τ (σ .apex ∷ x) (a ∷ m .behind) refl)
+            in
+            let end : p′ ≡ p + (11 + length (a .info)) =
+            q ∙ ap (recordEnd (take len d′)) here ∙ record-end-is τ d′ len h (σ .apex ∷ x) (m .behind) a refl ∙ ap (λ (c : ℕ). c + (11 + length (a .info))) (sym here)
+            in
+            let more-size = size-more encodeAnchor (σ .apex ∷ x) a in
+            let joined : size encodeAnchor (σ .apex ∷ (old ++ (v .done ++ (a ∷ [])))) ≡ size encodeAnchor ((σ .apex ∷ x) ++ (a ∷ [])) =
+            ap (λ (r : List Anchor). size encodeAnchor (σ .apex ∷ r)) (sym (append-assoc old (v .done) (a ∷ [])))
+            in
+            record {
+              done = v .done ++ (a ∷ []);
+              rest = m .behind;
+              parts =
+                  v .parts
+                  ∙ ap (λ (r : List Anchor). v .done ++ map set r) (m .rest)
+                  ∙ sym (append-assoc (v .done) (a ∷ []) (map set (m .behind)));
+              holds = record { holds = rw e at h; count = v .holds .count };
+              at = omega (arith, v .at, length-append (v .done) (a ∷ []));
+              left = omega (arith, v .left, ap length (m .rest));
+              place = omega (arith, end, v .place, more-size, joined, length-encodeAnchor a);
+            }
+
+        pub stamping-on : Stamping d′ (j + 1) p′
+        stamping-on = record { room = s .room ∙ w .room; seen = λ σ old new h. seen-on σ old new (w .seen σ old new h) }
+
+    pub stamping-end : count ≤ j → Renumbers (map set) d₀ len k d
+    stamping-end z =
+        record {
+          room = w .room;
+          does = λ σ old new h.
+              let v = w .seen σ old new h in
+              let r = none-of (v .rest) (omega (arith, v .left)) in
+              let e : map set new ≡ v .done ++ v .rest = v .parts ∙ ap (λ (l : List Anchor). v .done ++ map set l) r ∙ ap (λ (l : List Anchor). v .done ++ l) (sym r) in
+              rw e (v .holds);
+        }
+
+pub old-few : {d : List ℕ} {len k : ℕ} → ScratchBoth d len k → k ≤ 32
+old-few s =
+    let τ = withOthers (s .old ++ s .new) (s .store) in
+    omega (arith, rules τ (s .holds .holds .good) .anchor-count, length-append (s .old) (s .new), s .holds .count)

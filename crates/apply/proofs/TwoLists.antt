@@ -1,0 +1,342 @@
+-- 01, After acceptance, Community Update.
+use Prim.Native.Nat.{ℕ, _+_, _≤_, _<_}
+use native.Mathlib.Omega.{arith}
+use mathlib.Core.Bool.{Bool, true, false, not, _&&_, _||_}
+use mathlib.Core.List.{List, [], _∷_, _++_, append-nil}
+use mathlib.Core.Path.{_≡_, refl, sym, ap, ap₂, _∙_}
+use lib.ListN.{length, take, length-append}
+use lib.Seq.{take-take, take-at}
+use lib.Dec.{ltb, leb, eqb}
+use borrow.Author.Tests.{le-leb, lt-ltb, le-ltb, ne-eqb, not-false}
+use Rattle.octets.specs.declared.Status.{Status}
+use Rattle.octets.specs.Status.{success, insufficientMemory, communityUpdateFailed}
+use Rattle.octets.specs.Limits.{maxName, maxCommunities, imageRoom}
+use Rattle.octets.specs.First.{givenIf}
+use Rattle.octets.specs.Lists.{allOf, anyOf, distinctBy}
+use Rattle.octets.specs.Octets.{same, member, distinct, placed}
+use Rattle.octets.proofs.Lists.{by-test, neither, keep-length, member-append, allOf-weaken}
+use Rattle.octets.proofs.Placed.{take-behind-placed, length-placed}
+use Rattle.der.specs.declared.Element.{Element}
+use Rattle.der.specs.Element.{field}
+use Rattle.der.specs.Contents.{oidOk}
+use Rattle.syntax.proofs.Each.{every-all}
+use Rattle.store.specs.Store.{Store}
+use Rattle.store.specs.Image.{encodeName, encodeSection, encode, wellFormed}
+use Rattle.store.specs.Parts.{communityPlace, communitiesOf}
+use Rattle.store.proofs.Formats.{communityOk, rules, from-rules}
+use Rattle.store.proofs.RoundTrip.{decode-encode}
+use Rattle.store.proofs.Parts.{parts}
+use Rattle.store.proofs.Sizes.{encode-length, community-size}
+use Rattle.edit.specs.Places.{endOf}
+use Rattle.edit.proofs.Places.{front, front-length, communities-in}
+use Rattle.message.specs.declared.Request.{Request}
+use Rattle.message.specs.Fields.{updatesIn, removeIn, oidsIn, additionsIn}
+use Rattle.message.proofs.Asked.{asked-additions}
+use Rattle.protocol.specs.Community.{afterRemovals, afterAdditions, updated, communityStatus, communitiesAfter}
+use Rattle.protocol.specs.Effect.{withCommunities, communityEffect}
+use Rattle.protocol.proofs.Lists.{anyOf-append}
+use Rattle.protocol.proofs.WellFormed.{GoodCommunities, good-communities}
+use Rattle.apply.specs.declared.Communities.{Communities}
+use Rattle.apply.specs.declared.Grown.{Grown}
+use Rattle.apply.specs.declared.Grown.the-variants.{To, Full}
+use Rattle.apply.specs.Scratch.{Holds, Scratch}
+use Rattle.apply.specs.Names.{oidsFrom, Section, FewNames, AddableAll, AddsAll}
+use Rattle.apply.specs.Community.{Puttable, Puts, CommunityReady, CommunityDone}
+use Rattle.apply.proofs.Held as held
+use Rattle.apply.proofs.Sections.{section-size, section-count}
+
+-- 24: "an OID occurs twice in its two lists"
+
+shuffle : (p q a b c : Bool) → not (p || q) && (a && b && not c) ≡ (not p && a) && b && not (q || c)
+shuffle true q a b c = refl
+shuffle false true true true c = refl
+shuffle false true true false c = refl
+shuffle false true false b c = refl
+shuffle false false a b c = refl
+
+distinct-both : (a b : List (List ℕ)) → distinct (a ++ b) ≡ distinct a && distinct b && not (anyOf (λ o. member o b) a)
+unfolding distinct distinctBy anyOf member
+distinct-both [] b = last (distinctBy same b)
+  where
+    last : (v : Bool) → v ≡ v && true
+    last true = refl
+    last false = refl
+distinct-both (x ∷ a) b =
+    ap₂ (λ (u v : Bool). not u && v) (member-append x a b) (distinct-both a b)
+    ∙ shuffle (member x a) (member x b) (distinct a) (distinct b) (anyOf (λ o. member o b) a)
+
+module _ (a b : List (List ℕ)) {u : Bool} (p : u ≡ distinct a) where
+  pub repeats-first : u ≡ false → true ≡ not (distinct (a ++ b))
+  repeats-first t =
+      let e : distinct (a ++ b) ≡ false = distinct-both a b ∙ rw (sym p ∙ t) in
+      sym (ap not e)
+
+  module _ (t : u ≡ true) {v : Bool} (q : v ≡ distinct b) where
+    pub repeats-second : v ≡ false → true ≡ not (distinct (a ++ b))
+    repeats-second z =
+        let e : distinct (a ++ b) ≡ false = distinct-both a b ∙ rw (sym p ∙ t, sym q ∙ z) in
+        sym (ap not e)
+
+    pub repeats-both : v ≡ true → {w : Bool} → w ≡ anyOf (λ o. member o b) a → w ≡ not (distinct (a ++ b))
+    repeats-both z {w} m =
+        let s = anyOf (λ o. member o b) a in
+        let e : distinct (a ++ b) ≡ not s = distinct-both a b ∙ rw (sym p ∙ t, sym q ∙ z) in
+        m ∙ sym (ap not e ∙ twice s)
+      where
+        twice : (v : Bool) → not (not v) ≡ v
+        twice true = refl
+        twice false = refl
+
+-- the status and the communities behind it, by what the tests said
+
+abbrev long : List ℕ → Bool
+long c = ltb maxName (length c)
+
+-- "On 24 or 17 no community changes"
+module _ (present : Bool) (removals additions : List (List ℕ)) (d : List ℕ) (len : ℕ) where
+  same-communities : (l : List (List ℕ)) (status : Status) → communityStatus present removals additions l ≡ status → (status .number ≡ 0 → ⊥)
+      → communitiesAfter present removals additions l ≡ l
+  unfolding communitiesAfter
+  same-communities l status e n = rw (ap (λ (v : Status). eqb (v .number) 0) e ∙ ne-eqb _ _ n, communitiesAfter)
+
+  no-change : (status : Status) → (status .number ≡ 0 → ⊥)
+      → ((σ : Store) → Holds σ d len → communityStatus present removals additions (σ .communities) ≡ status)
+      → Puts present removals additions d len (record { status = status; len = len }) d
+  no-change status n e =
+      record {
+        room = refl;
+        status = λ σ h. sym (e σ h);
+        after = λ σ h. rw (same-communities (σ .communities) status (e σ h) n) h;
+      }
+
+  -- 24
+  pub put-repeated : {b : Bool} → b ≡ not (distinct (removals ++ additions)) → b ≡ true
+      → Puts present removals additions d len (record { status = communityUpdateFailed; len = len }) d
+  unfolding communityStatus givenIf
+  put-repeated m t = no-change communityUpdateFailed (λ z. absurd (omega arith)) (λ σ h. rw (sym m ∙ t))
+
+  module _ (apart : not (distinct (removals ++ additions)) ≡ false) where
+    -- 17: "an OID is over 32 octets"
+    pub put-long : anyOf long (removals ++ additions) ≡ true → Puts present removals additions d len (record { status = insufficientMemory; len = len }) d
+    unfolding communityStatus givenIf
+    put-long t = no-change insufficientMemory (λ z. absurd (omega arith)) (λ σ h. rw (apart, t))
+
+    module _ (short : anyOf long (removals ++ additions) ≡ false) where
+      -- 17: "over 16 would remain"
+      pub put-many : ((σ : Store) → Holds σ d len → maxCommunities < length (updated present removals additions (σ .communities)))
+          → Puts present removals additions d len (record { status = insufficientMemory; len = len }) d
+      unfolding communityStatus givenIf
+      put-many f = no-change insufficientMemory (λ z. absurd (omega arith)) (λ σ h. rw (apart, short, lt-ltb _ _ (f σ h)))
+
+      -- 0
+      succeeds : (l : List (List ℕ)) → length (updated present removals additions l) ≤ maxCommunities → communityStatus present removals additions l ≡ success
+      unfolding communityStatus givenIf
+      succeeds l f = rw (apart, short, le-ltb _ _ f)
+
+      becomes : (l : List (List ℕ)) → length (updated present removals additions l) ≤ maxCommunities
+          → communitiesAfter present removals additions l ≡ updated present removals additions l
+      unfolding communitiesAfter
+      becomes l f = rw (ap (λ (v : Status). eqb (v .number) 0) (succeeds l f), communitiesAfter)
+
+      pub updated-good : (σ : Store) → wellFormed σ ≡ true → allOf oidOk additions ≡ true → length (updated present removals additions (σ .communities)) ≤ maxCommunities
+          → wellFormed (withCommunities (updated present removals additions (σ .communities)) σ) ≡ true
+      updated-good σ g o f =
+          let p = rules σ g in
+          let c : GoodCommunities (updated present removals additions (σ .communities)) =
+          rw (becomes (σ .communities) f) at
+          (good-communities present removals additions (σ .communities) o
+          (record { count = p .community-count; each = p .each-community; apart = p .communities }))
+          in
+          from-rules _
+          (record {
+            hwType = p .hwType;
+            hwType-oid = p .hwType-oid;
+            serial = p .serial;
+            anchor-count = p .anchor-count;
+            each-anchor = p .each-anchor;
+            keys = p .keys;
+            community-count = c .count;
+            each-community = c .each;
+            communities = c .apart;
+          })
+
+-- what is in the scratch
+
+communities-are : (σ : Store) (d : List ℕ) (len : ℕ) → Holds σ d len → communitiesOf (take len d) ≡ σ .communities
+communities-are σ d len h = ap communitiesOf (h .image) ∙ parts (encode σ) σ (decode-encode σ (h .good)) .communities
+
+pub put-few : {d : List ℕ} {len : ℕ} → Scratch d len → FewNames (take len d)
+put-few {d} {len} s =
+    let σ = s .store in
+    let p = rules σ (s .holds .good) in
+    let e = communities-are σ d len (s .holds) in
+    record {
+      few = rw e (p .community-count);
+      small = rw e (allOf-weaken communityOk (λ c. leb (length c) maxName) (λ c k. le-leb _ _ (community-size c k .1)) (σ .communities) (p .each-community));
+    }
+
+removals-few : (present : Bool) (removals l : List (List ℕ)) → length (afterRemovals present removals l) ≤ length l
+unfolding afterRemovals
+removals-few present removals l =
+    by-test (present && eqb (length removals) 0)
+    (λ t. rw (t, afterRemovals) (omega arith))
+    (λ t. rw (t, afterRemovals) (keep-length (λ c. not (member c removals)) l))
+
+module _ (present : Bool) {removals additions : List (List ℕ)} {d : List ℕ} {len : ℕ} (w : Puttable removals additions d len) {names : List ℕ} {k : ℕ}
+    (s : Section names k (afterRemovals present removals (communitiesOf (take len d)))) where
+  apart-no : not (distinct (removals ++ additions)) ≡ false
+  apart-no = ap not (w .apart)
+
+  pub put-addable : AddableAll additions names k
+  put-addable =
+      record {
+        kept = afterRemovals present removals (communitiesOf (take len d));
+        section = s;
+        few = omega (arith, removals-few present removals (communitiesOf (take len d)), put-few (w .scratch) .few);
+        small = neither (anyOf long removals) (anyOf long additions) (sym (anyOf-append long removals additions) ∙ w .short) .1;
+      }
+
+  module _ {r : Grown} {names′ : List ℕ} (a : AddsAll additions names k r names′) where
+    pub put-full : r ≡ Full → Puts present removals additions d len (record { status = insufficientMemory; len = len }) d
+    unfolding afterAdditions
+    put-full f =
+        put-many present removals additions d len apart-no (w .short) (λ σ h.
+        let g = rw f at (a .adds (afterRemovals present removals (communitiesOf (take len d))) s) in
+        rw (← communities-are σ d len h) g)
+
+    module _ {n : ℕ} (t : r ≡ To n) where
+      abbrev after : List (List ℕ)
+      after = updated present removals additions (communitiesOf (take len d))
+
+      section : Section names′ n after
+      unfolding afterAdditions
+      section = rw t at (a .adds (afterRemovals present removals (communitiesOf (take len d))) s)
+
+      few : length after ≤ maxCommunities
+      few = omega (arith, a .few, section-count section)
+
+      module _ {place : ℕ} (p : place ≡ communityPlace (take len d)) where
+        module _ (σ : Store) (h : Holds σ d len) where
+          next : Store
+          next = withCommunities (updated present removals additions (σ .communities)) σ
+
+          as-there : after ≡ updated present removals additions (σ .communities)
+          as-there = ap (updated present removals additions) (communities-are σ d len h)
+
+          few-there : length (updated present removals additions (σ .communities)) ≤ maxCommunities
+          few-there = rw as-there at few
+
+          good : wellFormed next ≡ true
+          unfolding next
+          good = updated-good present removals additions d len apart-no (w .short) σ (h .good) (w .oids) few-there
+
+          there : place ≡ endOf σ
+          there = p ∙ held.end-is σ d len h
+
+          image-of : encode next ≡ front σ ++ take n names′
+          unfolding next
+          image-of =
+              communities-in next
+              ∙ ap (λ (r : List ℕ). front σ ++ r)
+              (append-nil (encodeSection encodeName (updated present removals additions (σ .communities)))
+              ∙ ap (encodeSection encodeName) (sym as-there)
+              ∙ sym (section .image))
+
+          size-of : length (encode next) ≡ place + n
+          size-of =
+              omega (
+                arith,
+                ap length image-of,
+                length-append (front σ) (take n names′),
+                front-length σ,
+                there,
+                ap length (section .image),
+                section-size section,
+              )
+
+        pub put-names : n ≤ length names′
+        put-names = section .inside
+
+        pub put-small : place + n ≤ imageRoom
+        put-small =
+            let σ = w .scratch .store in
+            let h = w .scratch .holds in
+            omega (arith, size-of σ h, encode-length (next σ h) (good σ h))
+
+        put-inside : place + n ≤ length d
+        put-inside = omega (arith, put-small, w .scratch .room)
+
+        pub put-fits : place + length (take n names′) ≤ length d
+        put-fits = omega (arith, put-inside, ap length (section .image), section-size section)
+
+        pub put-done : {d′ : List ℕ} → d′ ≡ placed d place (take n names′) → Puts present removals additions d len (record { status = success; len = place + n }) d′
+        unfolding next
+        put-done {d′} e =
+            let l : length (take n names′) ≡ n = ap length (section .image) ∙ section-size section in
+            let room : length d′ ≡ length d = ap length e ∙ length-placed d place (take n names′) put-fits in
+            record {
+              room = room;
+              status = λ σ h. sym (succeeds present removals additions d len apart-no (w .short) (σ .communities) (few-there σ h));
+              after = λ σ h.
+                  let at : place ≤ len = omega (arith, there σ h, held.end-before σ d len h) in
+                  let f : take place d ≡ front σ =
+                  sym (take-take place len d at)
+                  ∙ ap (take place) (h .image ∙ communities-in σ)
+                  ∙ take-at (front σ) _ place (front-length σ ∙ sym (there σ h))
+                  in
+                  let i : take (place + n) d′ ≡ encode (next σ h) =
+                  ap₂ take (ap (λ (x : ℕ). place + x) (sym l)) e
+                  ∙ take-behind-placed d place (take n names′) (omega (arith, at, h .inside))
+                  ∙ ap (λ (x : List ℕ). x ++ take n names′) f
+                  ∙ sym (image-of σ h)
+                  in
+                  rw (becomes present removals additions d len apart-no (w .short) (σ .communities) (few-there σ h))
+                  (record { image = i; inside = omega (arith, room, put-inside); good = good σ h });
+            }
+
+-- the message
+
+oids-are : (s : List ℕ) {e : Element} (f : Element) → e ≡ f → oidsIn s f ≡ oidsFrom s (e .stop) (e .start)
+unfolding oidsIn
+oids-are s f q = ap (λ (g : Element). oidsIn s g) (sym q)
+
+module _ (s : List ℕ) (q : Request) (d : List ℕ) (len : ℕ) {updates removals additions : Element} (u : updates ≡ updatesIn s (q .body) (q .msgref))
+    (v : removals ≡ field 0xA1 s updates) (z : additions ≡ field 0xA2 s updates) where
+  abbrev gone : List (List ℕ)
+  gone = oidsFrom s (removals .stop) (removals .start)
+
+  abbrev come : List (List ℕ)
+  come = oidsFrom s (additions .stop) (additions .start)
+
+  pub community-done : {r : Communities} {d′ : List ℕ} → Puts (removals .good) gone come d len r d′ → CommunityDone s q d len r d′
+  unfolding communityEffect removeIn additionsIn oidsIn
+  community-done p =
+      record {
+        room = p .room;
+        status = λ σ h. rw (← u, ← v, ← z) (p .status σ h);
+        store = λ σ h. rw (← u, ← v, ← z) (p .after σ h);
+      }
+
+  pub community-puttable : CommunityReady s q d len → {b : Bool} → b ≡ not (distinct (gone ++ come)) → b ≡ false
+      → {x : Bool} → x ≡ anyOf long gone → x ≡ false → {y : Bool} → y ≡ anyOf long come → y ≡ false → Puttable gone come d len
+  unfolding additionsIn oidsIn
+  community-puttable w m t f g h k =
+      record {
+        scratch = w .scratch;
+        apart = not-false _ (sym m ∙ t);
+        short = anyOf-append long gone come ∙ rw (sym f ∙ g, sym h ∙ k);
+        oids = every-all oidOk come (rw (← u, ← z) at (asked-additions s q (w .asked) (w .update)));
+      }
+
+  -- 24, and 17 for an OID over 32 octets
+  pub community-repeated : {b : Bool} → b ≡ not (distinct (gone ++ come)) → b ≡ true → CommunityDone s q d len (record { status = communityUpdateFailed; len = len }) d
+  community-repeated m t = community-done (put-repeated (removals .good) gone come d len m t)
+
+  module _ {b : Bool} (m : b ≡ not (distinct (gone ++ come))) (t : b ≡ false) where
+    pub community-long : {x : Bool} → x ≡ anyOf long gone → x ≡ true → CommunityDone s q d len (record { status = insufficientMemory; len = len }) d
+    community-long f g = community-done (put-long (removals .good) gone come d len (sym m ∙ t) (anyOf-append long gone come ∙ rw (sym f ∙ g)))
+
+    pub community-longer : {x : Bool} → x ≡ anyOf long gone → x ≡ false → {y : Bool} → y ≡ anyOf long come → y ≡ true
+        → CommunityDone s q d len (record { status = insufficientMemory; len = len }) d
+    community-longer f g h k =
+        community-done (put-long (removals .good) gone come d len (sym m ∙ t) (anyOf-append long gone come ∙ rw (sym f ∙ g, sym h ∙ k)))

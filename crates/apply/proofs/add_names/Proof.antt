@@ -1,0 +1,81 @@
+use Rattle.apply.proofs.Additions.{Joining, joining-start, joining-addable, joining-full, joining-on, joining-end}
+use Rattle.apply.proofs.Oids.{oids-less}
+use Prim.Native.Nat.{_-_}
+use mathlib.Core.Path.{_∙_}
+use native.Mathlib.Omega.{arith}
+use borrow.Author.Needs.{needs}
+use Rattle.apply.proofs.add_names.Statement.{statement}
+use Rattle.apply.proofs.add_names.Tie as tie
+
+abbrev Inv-loop : tie.InvT-loop
+Inv-loop message names₀ len kept stop i₀ end₀ names i end = Joining message stop i₀ kept names₀ len names i end
+
+abbrev μ-loop : tie.MeasureT-loop
+μ-loop message names₀ len kept stop i₀ end₀ names i end = stop - i
+
+slice-read-wide : tie.Need-slice-read-wide Inv-loop μ-loop
+slice-read-wide c = omega (arith, c .before .before .before .pre .section .room)
+
+wide-requires : tie.Need-wide-requires Inv-loop μ-loop
+wide-requires c κs = search needs
+
+loop-holds : tie.Need-loop-holds Inv-loop μ-loop
+loop-holds c = joining-start _ _ _ _ _ _ (c .before .before .before .before .pre) (c .wide .ensures)
+
+element-at-requires : tie.Need-element-at-requires Inv-loop μ-loop
+element-at-requires c κs = search needs
+
+contents-requires : tie.Need-contents-requires Inv-loop μ-loop
+contents-requires c κs = search needs
+
+add-name-requires : tie.Need-add-name-requires Inv-loop μ-loop
+add-name-requires c κs = joining-addable _ _ _ _ _ _ (c .before .before .before .before .loop .inv) (c .before .before .before .loop-test .taken) (c .before .before .element-at .ensures) (c .contents .ensures) (c .before .before .before .before .before .before .before .before .before .pre)
+
+enum-known-n : tie.Need-enum-known-n Inv-loop μ-loop
+enum-known-n c = search needs
+
+enum-told : tie.Need-enum-told Inv-loop μ-loop
+enum-told c = search needs
+
+same-length : tie.Need-same-length Inv-loop μ-loop
+same-length c = c .before .before .before .before .add-name .ensures .same-room ∙ c .before .before .before .before .before .before .before .before .before .loop .inv .same-room
+
+returns : tie.Need-returns Inv-loop μ-loop
+returns c = joining-full _ _ _ _ _ _ (c .before .before .before .before .before .before .before .before .before .loop .inv) (c .before .before .before .before .before .before .before .before .loop-test .taken) (c .before .before .before .before .before .before .before .element-at .ensures) (c .before .before .before .before .before .contents .ensures) (c .before .before .before .before .add-name .ensures) (c .enum-told .given .1)
+
+next-requires : tie.Need-next-requires Inv-loop μ-loop
+next-requires c κs = search needs
+
+loop-less : tie.Need-loop-less Inv-loop μ-loop
+loop-less c = oids-less _ _ _ (c .before .before .before .before .before .before .before .before .before .before .loop-test .taken) (c .before .before .before .before .before .before .before .before .before .element-at .ensures) (c .next .ensures)
+
+loop-again : tie.Need-loop-again Inv-loop μ-loop
+loop-again c = joining-on _ _ _ _ _ _ (c .before .before .before .before .before .before .before .before .before .before .before .loop .inv) (c .before .before .before .before .before .before .before .before .before .before .loop-test .taken) (c .before .before .before .before .before .before .before .before .before .element-at .ensures) (c .before .before .before .before .before .before .before .contents .ensures) (c .before .before .before .before .before .before .add-name .ensures) (c .before .before .n .given .1) (c .next .ensures)
+
+same-length-2 : tie.Need-same-length-2 Inv-loop μ-loop
+same-length-2 c = c .before .loop .inv .same-room
+
+returns-2 : tie.Need-returns-2 Inv-loop μ-loop
+returns-2 c = joining-end _ _ _ _ _ _ (c .before .loop .inv) (c .loop-test .left)
+
+pub add-names-spec : {M : Type 1} → statement M
+add-names-spec =
+    tie.close
+    (tie.spec
+    Inv-loop
+    μ-loop
+    slice-read-wide
+    wide-requires
+    loop-holds
+    element-at-requires
+    contents-requires
+    add-name-requires
+    enum-known-n
+    enum-told
+    same-length
+    returns
+    next-requires
+    loop-less
+    loop-again
+    same-length-2
+    returns-2)

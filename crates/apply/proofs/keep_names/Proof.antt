@@ -1,0 +1,67 @@
+use Rattle.apply.proofs.Sections.{Keeping, keeping-start, keeping-joinable, keeping-on, keeping-end, names-of}
+use Rattle.apply.specs.Names.{oidsFrom}
+use native.Mathlib.Omega.{arith}
+use borrow.Author.Needs.{needs}
+use Rattle.apply.proofs.keep_names.Statement.{statement}
+use Rattle.apply.proofs.keep_names.Tie as tie
+
+abbrev Inv-loop : tie.InvT-loop
+Inv-loop message removals image names₀ octets left₀ p₀ len₀ names left p len =
+    Keeping (oidsFrom message (removals .stop) (removals .start)) octets left₀ names₀ names len p left
+
+abbrev μ-loop : tie.MeasureT-loop
+μ-loop message removals image names₀ octets left₀ p₀ len₀ names left p len = left
+
+community-octets-requires : tie.Need-community-octets-requires Inv-loop μ-loop
+community-octets-requires c κs = search needs
+
+community-count-requires : tie.Need-community-count-requires Inv-loop μ-loop
+community-count-requires c κs = search needs
+
+loop-holds : tie.Need-loop-holds Inv-loop μ-loop
+loop-holds c = keeping-start _ _ _ (c .before .before .before .before .before .pre .0) (c .before .before .before .before .before .pre .1) (c .before .community-octets .ensures) (c .community-count .ensures)
+
+name-at-requires : tie.Need-name-at-requires Inv-loop μ-loop
+name-at-requires c κs = search needs
+
+keep-name-requires : tie.Need-keep-name-requires Inv-loop μ-loop
+keep-name-requires c κs = keeping-joinable _ _ _ _ (c .before .before .before .loop .inv) (c .before .before .loop-test .taken) (c .name-at .ensures)
+
+name-end-requires : tie.Need-name-end-requires Inv-loop μ-loop
+name-end-requires c κs = search needs
+
+sub-left : tie.Need-sub-left Inv-loop μ-loop
+sub-left c = search needs
+
+loop-less : tie.Need-loop-less Inv-loop μ-loop
+loop-less c = omega (arith, c .before .before .before .before .before .before .loop-test .taken)
+
+loop-again : tie.Need-loop-again Inv-loop μ-loop
+loop-again c = keeping-on _ _ _ _ (c .before .before .before .before .before .before .before .loop .inv) (c .before .before .before .before .before .before .loop-test .taken) (c .before .before .before .before .name-at .ensures) (c .before .before .before .keep-name .ensures) (c .name-end .ensures)
+
+same-length : tie.Need-same-length Inv-loop μ-loop
+same-length c = c .before .loop .inv .same-room
+
+returns : tie.Need-returns Inv-loop μ-loop
+returns c = (
+  c .before .loop .inv .same-room,
+  rw (names-of _ (c .before .before .before .community-octets .ensures) (c .before .before .community-count .ensures)) (keeping-end _ _ _ _ (c .before .loop .inv) (c .loop-test .left)),
+)
+
+pub keep-names-spec : {M : Type 1} → statement M
+keep-names-spec =
+    tie.close
+    (tie.spec
+    Inv-loop
+    μ-loop
+    community-octets-requires
+    community-count-requires
+    loop-holds
+    name-at-requires
+    keep-name-requires
+    name-end-requires
+    sub-left
+    loop-less
+    loop-again
+    same-length
+    returns)

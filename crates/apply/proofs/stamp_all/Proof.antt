@@ -1,0 +1,72 @@
+use native.Mathlib.Omega.{arith}
+use Rattle.apply.proofs.Pairs.{Pairing, pairing-start, pairing-scratch, pairing-small, pairing-on, pairing-less, pairing-end, pairs-of}
+use Prim.Native.Nat.{_-_}
+use borrow.Author.Needs.{needs}
+use Rattle.apply.proofs.stamp_all.Statement.{statement}
+use Rattle.apply.proofs.stamp_all.Tie as tie
+
+abbrev Inv-loop : tie.InvT-loop
+Inv-loop message work₀ len old stop at₀ work at = Pairing message stop work₀ len old at₀ work at
+
+abbrev μ-loop : tie.MeasureT-loop
+μ-loop message work₀ len old stop at₀ work at = stop - at
+
+field-requires : tie.Need-field-requires Inv-loop μ-loop
+field-requires c κs = search needs
+
+loop-holds : tie.Need-loop-holds Inv-loop μ-loop
+loop-holds c =
+    pairing-start _ _ _ _ _ (λ i. omega (arith, c .before .before .shared-slice-known .given i)) (c .before .before .before .pre) (c .field .ensures)
+
+element-at-requires : tie.Need-element-at-requires Inv-loop μ-loop
+element-at-requires c κs = search needs
+
+field-requires-2 : tie.Need-field-requires-2 Inv-loop μ-loop
+field-requires-2 c κs = search needs
+
+contents-requires : tie.Need-contents-requires Inv-loop μ-loop
+contents-requires c κs = search needs
+
+field-requires-3 : tie.Need-field-requires-3 Inv-loop μ-loop
+field-requires-3 c κs = search needs
+
+number-in-requires : tie.Need-number-in-requires Inv-loop μ-loop
+number-in-requires c κs = search needs
+
+stamp-requires : tie.Need-stamp-requires Inv-loop μ-loop
+stamp-requires c κs = (pairing-scratch _ _ _ _ _ _ (c .before .before .before .before .before .before .before .loop .inv) (c .before .before .before .before .before .before .before .before .before .before .before .pre .scratch), pairing-small _ _ _ _ _ _ (c .before .before .before .before .before .before .before .loop .inv) (c .before .before .before .before .before .before .loop-test .taken) (c .before .before .before .before .before .element-at .ensures) (c .before .before .field3 .ensures) (c .before .number-in .ensures))
+
+next-requires : tie.Need-next-requires Inv-loop μ-loop
+next-requires c κs = search needs
+
+loop-less : tie.Need-loop-less Inv-loop μ-loop
+loop-less c = pairing-less _ _ _ _ _ _ (c .before .before .before .before .before .before .before .before .before .before .before .loop .inv) (c .before .before .before .before .before .before .before .before .before .before .loop-test .taken) (c .before .before .before .before .before .before .before .before .before .element-at .ensures) (c .before .before .before .before .before .before .field3 .ensures) (c .before .before .before .before .before .number-in .ensures) (c .before .before .before .before .before .before .before .before .field2 .ensures) (c .before .before .before .before .before .before .before .contents .ensures) (c .before .before .before .stamp .ensures) (c .next .ensures)
+
+loop-again : tie.Need-loop-again Inv-loop μ-loop
+loop-again c = pairing-on _ _ _ _ _ _ (c .before .before .before .before .before .before .before .before .before .before .before .loop .inv) (c .before .before .before .before .before .before .before .before .before .before .loop-test .taken) (c .before .before .before .before .before .before .before .before .before .element-at .ensures) (c .before .before .before .before .before .before .field3 .ensures) (c .before .before .before .before .before .number-in .ensures) (c .before .before .before .before .before .before .before .before .field2 .ensures) (c .before .before .before .before .before .before .before .contents .ensures) (c .before .before .before .stamp .ensures) (c .next .ensures)
+
+same-length : tie.Need-same-length Inv-loop μ-loop
+same-length c = c .before .loop .inv .room
+
+returns : tie.Need-returns Inv-loop μ-loop
+returns c = pairing-end _ _ _ _ _ _ (c .before .loop .inv) _ (pairs-of _ (c .before .before .before .before .before .args .q) (c .before .before .field .ensures)) (c .loop-test .left)
+
+pub stamp-all-spec : {M : Type 1} → statement M
+stamp-all-spec =
+    tie.close
+    (tie.spec
+    Inv-loop
+    μ-loop
+    field-requires
+    loop-holds
+    element-at-requires
+    field-requires-2
+    contents-requires
+    field-requires-3
+    number-in-requires
+    stamp-requires
+    next-requires
+    loop-less
+    loop-again
+    same-length
+    returns)

@@ -1,0 +1,6 @@
+pub mod Scratch
+pub mod Edits
+pub mod Entry
+pub mod Update
+pub mod Names
+pub mod Community

@@ -1,0 +1,659 @@
+// What an accepted Update or Community Update does to the store, on a scratch image (01, After acceptance).
+use der::Element;
+use message::Entry;
+use message::Request;
+use octets::Status;
+use store::Position;
+use store::Sought;
+ghost use mathlib.Core.Path.{_≡_};
+ghost use mathlib.Core.Bool.{not, _&&_};
+ghost use mathlib.Core.List.{[], _++_, map};
+ghost use Prim.Native.Nat.{_<_, _≤_};
+ghost use lib.ListN.{length};
+ghost use lib.Dec.{ltb, leb};
+ghost use Rattle.protocol.specs.Community.{afterRemovals};
+ghost use Rattle.octets.specs.Limits.{maxNumber, maxName};
+ghost use Rattle.octets.specs.Octets.{member, distinct};
+ghost use Rattle.octets.specs.Lists.{anyOf, keep};
+ghost use Rattle.rights.specs.Decision.{within};
+ghost use Rattle.anchor.specs.Info.{rightsOf};
+ghost use Rattle.anchor.specs.Judge.{statusOf as judgedStatus, judge};
+ghost use Rattle.store.specs.Records.{recordsOf};
+ghost use Rattle.store.specs.Parts.{infoIn, communitiesOf, isSought};
+ghost use Rattle.message.specs.Fields.{entryOf, seqNumbersIn};
+ghost use Rattle.protocol.specs.Update.{added, removed, step as stepOf, stamped, allStamped};
+ghost use Rattle.apply.specs.Scratch.{Scratch, ScratchBoth, infoAt, signerRights};
+ghost use Rattle.apply.specs.Edits.{Growable, Appends, Cuttable, Cuts, Stampable, Stamps, Renumbers};
+ghost use Rattle.apply.specs.Entry.{statusOf, Applies, Enters, Conforming, Adding, untagged};
+ghost use Rattle.apply.specs.Names.{oidsFrom, Section, Joinable, Joins, KeepsName, FewNames, Addable, AddsName, AddableAll, AddsAll};
+ghost use Rattle.apply.specs.Community.{Puttable, Puts, CommunityReady, CommunityDone};
+ghost use Rattle.apply.specs.Update.{nextAt, Enterable, EntersAll, Numerable, UpdatedAs};
+
+// What an entry of an Update comes to.
+pub enum Applied {
+    // 0: the length of the image, and how many of the anchors behind the apex stood before this message
+    Done(usize, usize),
+    // nothing changed
+    Failed(Status),
+}
+
+// What an entry leaves: its status, the length of the image, and how many of the anchors behind the apex stood before this message.
+pub struct Entered {
+    code: u8,
+    len: usize,
+    old: usize,
+}
+
+// What all entries leave.
+pub struct Marks {
+    len: usize,
+    old: usize,
+}
+
+// What a Community Update comes to: its status, and the length of the image.
+pub struct Communities {
+    pub status: Status,
+    pub len: usize,
+}
+
+// What additions of communities come to.
+pub enum Grown {
+    // the length of the section
+    To(usize),
+    // over 16 would remain
+    Full,
+}
+
+// The TrustAnchorInfo at a position, as a part of the image.
+fn info_at(image: &[u8], position: usize) -> &[u8]
+    ensures { λ r. ⌜ now r ≡ infoAt (now (image .entry)) position ⌝ }
+{
+    store::info_of(store::record_at(image, store::record_place(image, position)))
+}
+
+// 01, After acceptance: "not within the signer", by the signer's rights in the image that the call was given. The apex authorises everything.
+fn is_within_signer(image: &[u8], i: usize, t: &[u8]) -> bool
+    ensures { λ r. ⌜ r ≡ within (signerRights (now (image .entry)) i) (rightsOf (now (t .entry))) ⌝ }
+{
+    if i == 0 {
+        return true;
+    }
+    rights::is_within(
+        anchor::constraints_value(info_at(image, i)),
+        anchor::constraints_value(t),
+    )
+}
+
+// 34, and 17 for size.
+fn judged(t: &[u8]) -> Status
+    ensures { λ r. ⌜ r ≡ judgedStatus (judge (now (t .entry))) ⌝ }
+{
+    anchor::status(anchor::judge(t))
+}
+
+// Some anchor of the image is the one that is sought.
+fn is_stored(image: &[u8], by: Sought, wanted: &[u8]) -> bool
+    ensures { λ r. ⌜ r ≡ anyOf (isSought by (now (wanted .entry))) (map infoIn (recordsOf (now (image .entry)))) ⌝ }
+{
+    if let Position::At(_) = store::find(image, by, wanted) {
+        return true;
+    }
+    false
+}
+
+// Appends an anchor without a number. Gives the new length.
+fn append(work: &mut [u8], len: usize, t: &[u8]) -> usize
+    requires { ⌜ Growable (now work) len (now t) ⌝ }
+    ensures { λ r. ⌜ Appends (now (work .entry)) len (now (t .entry)) r (now (work .exit)) ⌝ }
+{
+    let end = store::community_place(&work[..len]);
+    let count = store::first_record(&work[..len]) - 1;
+    edit::append_anchor(work, len, end, count, t)
+}
+
+// Removes the anchor at a position behind the apex. Gives the new length.
+fn cut(work: &mut [u8], len: usize, position: usize) -> usize
+    requires { ⌜ Cuttable (now work) len position ⌝ }
+    ensures { λ r. ⌜ Cuts (now (work .entry)) len position r (now (work .exit)) ⌝ }
+{
+    let at = store::record_place(&work[..len], position);
+    let end = store::record_end(&work[..len], at);
+    let count = store::first_record(&work[..len]) - 1;
+    edit::remove_item(work, len, at, end - at, count)
+}
+
+// add: 34, 17 for size, 11, 0 if the same octets are stored, 20 if the public key is stored otherwise, 17 at 32 anchors, else appended.
+fn add(image: &[u8], i: usize, work: &mut [u8], len: usize, old: usize, t: &[u8]) -> Applied
+    requires { ⌜ Scratch (now work) len × Conforming (now t) ⌝ }
+    ensures { λ r.
+        ⌜ Applies
+        (λ apex before new. added (signerRights (now (image .entry)) i) apex before new (now (t .entry)))
+        (now (work .entry))
+        len
+        old
+        r
+        (now (work .exit)) ⌝ }
+{
+    let found = judged(t);
+    if found.number != 0 {
+        return Applied::Failed(found);
+    }
+    if !is_within_signer(image, i, t) {
+        return Applied::Failed(Status::NOT_AUTHORIZED);
+    }
+    if is_stored(&work[..len], Sought::Info, t) {
+        return Applied::Done(len, old);
+    }
+    if is_stored(&work[..len], Sought::PublicKey, anchor::public_key(t)) {
+        return Applied::Failed(Status::IMPROPER_TA_ADDITION);
+    }
+    if 32 <= store::anchor_count(&work[..len]) {
+        return Applied::Failed(Status::INSUFFICIENT_MEMORY);
+    }
+    let n = append(work, len, t);
+    Applied::Done(n, old)
+}
+
+// remove: 25 no such key; 19 the apex; 11 not within the signer; else 0. The key comes as the message tags it.
+fn remove(image: &[u8], i: usize, work: &mut [u8], len: usize, old: usize, key: &[u8]) -> Applied
+    requires { ⌜ Scratch (now work) len ⌝ }
+    ensures { λ r.
+        ⌜ Applies
+        (λ apex before new. removed (signerRights (now (image .entry)) i) apex before new (untagged (now (key .entry))))
+        (now (work .entry))
+        len
+        old
+        r
+        (now (work .exit)) ⌝ }
+{
+    let Position::At(p) = store::find(&work[..len], Sought::TaggedPublicKey, key) else {
+        return Applied::Failed(Status::TRUST_ANCHOR_NOT_FOUND);
+    };
+    if p == 0 {
+        return Applied::Failed(Status::APEX_TAMP_ANCHOR);
+    }
+    if !is_within_signer(image, i, info_at(&work[..len], p)) {
+        return Applied::Failed(Status::NOT_AUTHORIZED);
+    }
+    let n = cut(work, len, p);
+    if p <= old {
+        return Applied::Done(n, old - 1);
+    }
+    Applied::Done(n, old)
+}
+
+// An entry of the message.
+fn step(
+    message: &[u8],
+    image: &[u8],
+    i: usize,
+    work: &mut [u8],
+    len: usize,
+    old: usize,
+    entry: Entry,
+) -> Applied
+    requires { ⌜ Scratch (now work) len × Adding (now message) entry ⌝ }
+    ensures { λ r.
+        ⌜ Applies
+        (λ apex before new. stepOf (now (message .entry)) (signerRights (now (image .entry)) i) apex before new entry)
+        (now (work .entry))
+        len
+        old
+        r
+        (now (work .exit)) ⌝ }
+{
+    match entry {
+        Entry::Add(e) => add(image, i, work, len, old, der::whole(message, e)),
+        Entry::AddCertificate => Applied::Failed(Status::UNSUPPORTED_TRUST_ANCHOR_FORMAT),
+        Entry::Remove(e) => remove(image, i, work, len, old, der::whole(message, e)),
+        Entry::Change => Applied::Failed(Status::IMPROPER_TA_CHANGE),
+    }
+}
+
+fn code_of(done: Applied) -> u8
+    requires { ⌜ statusOf done .number < 256 ⌝ }
+    ensures { λ r. ⌜ r ≡ statusOf done .number ⌝ }
+{
+    match done {
+        Applied::Done(_, _) => 0,
+        Applied::Failed(status) => status.number as u8,
+    }
+}
+
+// An entry of the message: "a failed one changes nothing".
+fn enter(
+    message: &[u8],
+    image: &[u8],
+    i: usize,
+    work: &mut [u8],
+    len: usize,
+    old: usize,
+    e: Element,
+) -> Entered
+    requires { ⌜ ScratchBoth (now work) len old × Adding (now message) (entryOf (now message) e) ⌝ }
+    ensures { λ r.
+        ⌜ Enters
+        (λ apex before new. stepOf (now (message .entry)) (signerRights (now (image .entry)) i) apex before new (entryOf (now (message .entry)) e))
+        (now (work .entry))
+        len
+        old
+        r
+        (now (work .exit)) ⌝ }
+{
+    let done = step(
+        message,
+        image,
+        i,
+        work,
+        len,
+        old,
+        message::entry_of(message, e),
+    );
+    let Applied::Done(n, k) = done else {
+        return Entered {
+            code: code_of(done),
+            len: len,
+            old: old,
+        };
+    };
+    Entered {
+        code: 0,
+        len: n,
+        old: k,
+    }
+}
+
+// Where the element behind e stands, or the end: one whose header breaks a rule is the last.
+fn next(e: Element, stop: usize) -> usize
+    ensures { λ r. ⌜ r ≡ nextAt e stop ⌝ }
+{
+    if e.good {
+        return e.stop;
+    }
+    stop
+}
+
+// "They apply in order, each to what the former left": the entries in a list, with a status octet for each.
+fn enter_all(
+    message: &[u8],
+    q: Request,
+    image: &[u8],
+    i: usize,
+    work: &mut [u8],
+    len: usize,
+    codes: &mut [u8],
+) -> Marks
+    requires { ⌜ Enterable (now message) q (now work) len (now codes) ⌝ }
+    ensures { λ r.
+        ⌜ EntersAll
+        (now (message .entry))
+        (signerRights (now (image .entry)) i)
+        q
+        (now (work .entry))
+        len
+        (now (codes .entry))
+        r
+        (now (work .exit))
+        (now (codes .exit)) ⌝ }
+{
+    let list = message::updates_in(message, q.body, q.msgref);
+    let stop = list.stop;
+    let mut at = list.start;
+    let mut end = len;
+    let mut old = store::anchor_count(&work[..len]) - 1;
+    let mut n = 0;
+    while at < stop {
+        let e = der::element_at(message, at, stop);
+        let done = enter(message, image, i, work, end, old, e);
+        codes[n] = done.code;
+        end = done.len;
+        old = done.old;
+        n += 1;
+        at = next(e, stop);
+    }
+    Marks { len: end, old: old }
+}
+
+// Sets the number of the anchor whose record stands at place p, if it has the identifier.
+fn stamp_at(work: &mut [u8], len: usize, p: usize, id: &[u8], n: u64)
+    requires { ⌜ Stampable (now work) len p n ⌝ }
+    ensures { λ r. ⌜ Stamps (now (work .entry)) len p (now (id .entry)) n (now (work .exit)) ⌝ }
+{
+    if !octets::equal(store::identifier_of(store::record_at(&work[..len], p)), id) {
+        return;
+    }
+    edit::set_number(work, p, n);
+}
+
+// An entry of tampSeqNumbers: the anchors behind the old ones were appended by this message.
+fn stamp(work: &mut [u8], len: usize, old: usize, id: &[u8], n: u64)
+    requires { ⌜ ScratchBoth (now work) len old × (n ≤ maxNumber) ⌝ }
+    ensures { λ r. ⌜ Renumbers (map (stamped (now (id .entry), n))) (now (work .entry)) len old (now (work .exit)) ⌝ }
+{
+    let count = store::anchor_count(&work[..len]);
+    let mut j = old + 1;
+    let mut p = store::record_place(&work[..len], j);
+    while j < count {
+        stamp_at(work, len, p, id, n);
+        p = store::record_end(&work[..len], p);
+        j += 1;
+    }
+}
+
+// "Then tampSeqNumbers in order".
+fn stamp_all(message: &[u8], q: Request, work: &mut [u8], len: usize, old: usize)
+    requires { ⌜ Numerable (now message) q (now work) len old ⌝ }
+    ensures { λ r. ⌜ Renumbers (allStamped (seqNumbersIn (now (message .entry)) (q .body))) (now (work .entry)) len old (now (work .exit)) ⌝ }
+{
+    let list = der::field(message, q.body, 0xA2);
+    let stop = list.stop;
+    let mut at = list.start;
+    while at < stop {
+        let e = der::element_at(message, at, stop);
+        let id = der::contents(message, der::field(message, e, 0x04));
+        let n = message::number_in(message, der::field(message, e, 0x02));
+        stamp(work, len, old, id, n);
+        at = next(e, stop);
+    }
+}
+
+// An accepted Update of at most 16 entries, on a scratch that holds the store with the signer's number: the store behind it, a status octet for each entry.
+// Gives the length of the image. What stands behind the image in `work` is free.
+pub fn update(
+    message: &[u8],
+    q: Request,
+    image: &[u8],
+    i: usize,
+    work: &mut [u8],
+    len: usize,
+    codes: &mut [u8],
+) -> usize
+    requires { ⌜ Enterable (now message) q (now work) len (now codes) ⌝ }
+    ensures { λ r.
+        ⌜ UpdatedAs
+        (now (message .entry))
+        (signerRights (now (image .entry)) i)
+        q
+        (now (work .entry))
+        len
+        (now (codes .entry))
+        r
+        (now (work .exit))
+        (now (codes .exit)) ⌝ }
+{
+    let m = enter_all(message, q, image, i, work, len, codes);
+    let end = m.len;
+    stamp_all(message, q, work, end, m.old);
+    end
+}
+
+// o is one of the OIDs from a place on.
+fn occurs(s: &[u8], at: usize, stop: usize, o: &[u8]) -> bool
+    ensures { λ r. ⌜ r ≡ member (now (o .entry)) (oidsFrom (now (s .entry)) stop at) ⌝ }
+{
+    let mut i = at;
+    while i < stop {
+        let e = der::element_at(s, i, stop);
+        if octets::equal(o, der::contents(s, e)) {
+            return true;
+        }
+        i = next(e, stop);
+    }
+    false
+}
+
+// No OID of the list occurs twice in it.
+fn is_distinct(s: &[u8], list: Element) -> bool
+    ensures { λ r. ⌜ r ≡ distinct (oidsFrom (now (s .entry)) (list .stop) (list .start)) ⌝ }
+{
+    let stop = list.stop;
+    let mut i = list.start;
+    while i < stop {
+        let e = der::element_at(s, i, stop);
+        let n = next(e, stop);
+        if occurs(s, n, stop, der::contents(s, e)) {
+            return false;
+        }
+        i = n;
+    }
+    true
+}
+
+// Some OID of the list is in the other one.
+fn shares(s: &[u8], list: Element, other: Element) -> bool
+    ensures { λ r.
+        ⌜ r ≡ anyOf
+        (λ o. member o (oidsFrom (now (s .entry)) (other .stop) (other .start)))
+        (oidsFrom (now (s .entry)) (list .stop) (list .start)) ⌝ }
+{
+    let stop = list.stop;
+    let mut i = list.start;
+    while i < stop {
+        let e = der::element_at(s, i, stop);
+        if occurs(s, other.start, other.stop, der::contents(s, e)) {
+            return true;
+        }
+        i = next(e, stop);
+    }
+    false
+}
+
+// Some OID of the list is over 32 octets.
+fn has_long(s: &[u8], list: Element) -> bool
+    ensures { λ r. ⌜ r ≡ anyOf (λ c. ltb maxName (length c)) (oidsFrom (now (s .entry)) (list .stop) (list .start)) ⌝ }
+{
+    let stop = list.stop;
+    let mut i = list.start;
+    while i < stop {
+        let e = der::element_at(s, i, stop);
+        if 32 < der::contents(s, e).len() {
+            return true;
+        }
+        i = next(e, stop);
+    }
+    false
+}
+
+// Appends a name to a section of communities. Gives the new length.
+fn join(names: &mut [u8], len: usize, name: &[u8]) -> usize
+    requires { ⌜ Joinable (now names) len (now name) ⌝ }
+    ensures { λ r. ⌜ Joins (now (names .entry)) len (now (name .entry)) r (now (names .exit)) ⌝ }
+{
+    edit::append_community(names, len, 0, name)
+}
+
+// Appends a community unless it is removed.
+fn keep_name(message: &[u8], removals: Element, names: &mut [u8], len: usize, name: &[u8]) -> usize
+    requires { ⌜ Joinable (now names) len (now name) ⌝ }
+    ensures { λ r.
+        ⌜ KeepsName
+        (oidsFrom (now (message .entry)) (removals .stop) (removals .start))
+        (now (names .entry))
+        len
+        (now (name .entry))
+        r
+        (now (names .exit)) ⌝ }
+{
+    if occurs(message, removals.start, removals.stop, name) {
+        return len;
+    }
+    join(names, len, name)
+}
+
+// The communities of an image that are not removed, as a section.
+fn keep_names(message: &[u8], removals: Element, image: &[u8], names: &mut [u8]) -> usize
+    requires { ⌜ FewNames (now image) × Section (now names) 1 [] ⌝ }
+    ensures { λ r.
+        ⌜ (length (now (names .exit)) ≡ length (now (names .entry)))
+        × Section
+        (now (names .exit))
+        r
+        (keep (λ c. not (member c (oidsFrom (now (message .entry)) (removals .stop) (removals .start)))) (communitiesOf (now (image .entry)))) ⌝ }
+{
+    let octets = store::community_octets(image);
+    let mut left = store::community_count(image);
+    let mut p = 0;
+    let mut len = 1;
+    while 0 < left {
+        len = keep_name(message, removals, names, len, store::name_at(octets, p));
+        p = store::name_end(octets, p);
+        left -= 1;
+    }
+    len
+}
+
+// A remove list that is present and empty: "all community identifiers MUST be removed" (RFC 5934, 4.7).
+fn clears(removals: Element) -> bool
+    ensures { λ r. ⌜ r ≡ removals .good && leb (removals .stop) (removals .start) ⌝ }
+{
+    if removals.good {
+        return removals.stop <= removals.start;
+    }
+    false
+}
+
+// The communities that the removals leave, as a section.
+fn after_removals(message: &[u8], removals: Element, image: &[u8], names: &mut [u8]) -> usize
+    requires { ⌜ FewNames (now image) × (529 ≤ length (now names)) ⌝ }
+    ensures { λ r.
+        ⌜ (length (now (names .exit)) ≡ length (now (names .entry)))
+        × Section
+        (now (names .exit))
+        r
+        (afterRemovals
+        (removals .good)
+        (oidsFrom (now (message .entry)) (removals .stop) (removals .start))
+        (communitiesOf (now (image .entry)))) ⌝ }
+{
+    names[0] = 0;
+    if clears(removals) {
+        return 1;
+    }
+    keep_names(message, removals, image, names)
+}
+
+fn wide(x: u8) -> usize
+    ensures { λ r. ⌜ r ≡ x ⌝ }
+{
+    x as usize
+}
+
+// Appends a community unless it is one of the first `kept`, where there is room for it.
+fn add_name(names: &mut [u8], len: usize, kept: usize, name: &[u8]) -> Grown
+    requires { ⌜ Addable (now names) len kept (now name) ⌝ }
+    ensures { λ r. ⌜ AddsName (now (names .entry)) len kept (now (name .entry)) r (now (names .exit)) ⌝ }
+{
+    if store::has_name(&names[..len], 1, kept, name) {
+        return Grown::To(len);
+    }
+    if names[0] == 16 {
+        return Grown::Full;
+    }
+    Grown::To(join(names, len, name))
+}
+
+// The additions behind the section: "present ones pass".
+fn add_names(message: &[u8], additions: Element, names: &mut [u8], len: usize) -> Grown
+    requires { ⌜ AddableAll (oidsFrom (now message) (additions .stop) (additions .start)) (now names) len ⌝ }
+    ensures { λ r.
+        ⌜ AddsAll (oidsFrom (now (message .entry)) (additions .stop) (additions .start)) (now (names .entry)) len r (now (names .exit)) ⌝ }
+{
+    let kept = wide(names[0]);
+    let stop = additions.stop;
+    let mut i = additions.start;
+    let mut end = len;
+    while i < stop {
+        let e = der::element_at(message, i, stop);
+        let Grown::To(n) = add_name(names, end, kept, der::contents(message, e)) else {
+            return Grown::Full;
+        };
+        end = n;
+        i = next(e, stop);
+    }
+    Grown::To(end)
+}
+
+// 24: an OID occurs twice in the two lists.
+fn repeats(s: &[u8], removals: Element, additions: Element) -> bool
+    ensures { λ r.
+        ⌜ r ≡ not
+        (distinct
+        (oidsFrom (now (s .entry)) (removals .stop) (removals .start)
+        ++ oidsFrom (now (s .entry)) (additions .stop) (additions .start))) ⌝ }
+{
+    if !is_distinct(s, removals) {
+        return true;
+    }
+    if !is_distinct(s, additions) {
+        return true;
+    }
+    shares(s, removals, additions)
+}
+
+// Removals, then additions, unless over 16 would remain.
+fn put_communities(
+    message: &[u8],
+    removals: Element,
+    additions: Element,
+    work: &mut [u8],
+    len: usize,
+) -> Communities
+    requires { ⌜ Puttable
+        (oidsFrom (now message) (removals .stop) (removals .start))
+        (oidsFrom (now message) (additions .stop) (additions .start))
+        (now work)
+        len ⌝ }
+    ensures { λ r.
+        ⌜ Puts
+        (removals .good)
+        (oidsFrom (now (message .entry)) (removals .stop) (removals .start))
+        (oidsFrom (now (message .entry)) (additions .stop) (additions .start))
+        (now (work .entry))
+        len
+        r
+        (now (work .exit)) ⌝ }
+{
+    let mut names = [0u8; 529];
+    let kept = after_removals(message, removals, &work[..len], &mut names);
+    let Grown::To(n) = add_names(message, additions, &mut names, kept) else {
+        return Communities {
+            status: Status::INSUFFICIENT_MEMORY,
+            len: len,
+        };
+    };
+    let place = store::community_place(&work[..len]);
+    octets::copy_to(work, place, &names[..n]);
+    Communities {
+        status: Status::SUCCESS,
+        len: place + n,
+    }
+}
+
+// An accepted Community Update, on a scratch that holds the store with the signer's number: its status, and the store behind it.
+pub fn community_update(message: &[u8], q: Request, work: &mut [u8], len: usize) -> Communities
+    requires { ⌜ CommunityReady (now message) q (now work) len ⌝ }
+    ensures { λ r. ⌜ CommunityDone (now (message .entry)) q (now (work .entry)) len r (now (work .exit)) ⌝ }
+{
+    let updates = message::updates_in(message, q.body, q.msgref);
+    let removals = der::field(message, updates, 0xA1);
+    let additions = der::field(message, updates, 0xA2);
+    if repeats(message, removals, additions) {
+        return Communities {
+            status: Status::COMMUNITY_UPDATE_FAILED,
+            len: len,
+        };
+    }
+    if has_long(message, removals) {
+        return Communities {
+            status: Status::INSUFFICIENT_MEMORY,
+            len: len,
+        };
+    }
+    if has_long(message, additions) {
+        return Communities {
+            status: Status::INSUFFICIENT_MEMORY,
+            len: len,
+        };
+    }
+    put_communities(message, removals, additions, work, len)
+}

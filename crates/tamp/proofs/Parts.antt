@@ -1,0 +1,48 @@
+-- Parts of a message are no longer than it; and what the call reads of an image.
+use Prim.Native.Nat.{ℕ, _-_, _≤_}
+use native.Mathlib.Omega.{arith}
+use mathlib.Core.Bool.{true}
+use mathlib.Core.List.{List, map}
+use mathlib.Core.Option.{some}
+use mathlib.Core.Path.{_≡_, ap, ap₂, _∙_}
+use lib.ListN.{length, length-take, length-drop}
+use Rattle.octets.specs.Limits.{imageRoom, maxMessage}
+use Rattle.octets.specs.Octets.{Octets, part}
+use Rattle.der.specs.declared.Element.{Element}
+use Rattle.der.specs.Element.{whole, contents}
+use Rattle.store.specs.Store.{Store, identifiers}
+use Rattle.store.specs.Image.{encode, decode, wellFormed}
+use Rattle.store.specs.Records.{recordsOf}
+use Rattle.store.specs.Parts.{identifierIn, communitiesOf}
+use Rattle.store.proofs.RoundTrip.{decode-encode, encode-decode, decode-wellFormed}
+use Rattle.store.proofs.Sizes.{encode-length}
+use Rattle.store.proofs.Parts.{parts, identifiers-of}
+use Rattle.reply.specs.Replies.{statusResponse}
+
+length-part : (s : List ℕ) (a e : ℕ) → length (part s a e) ≤ length s
+length-part s a e = simp (length-take, length-drop) (omega arith)
+
+pub whole-short : (s : List ℕ) (e : Element) → length (whole s e) ≤ length s
+whole-short s e = length-part s (e .at) (e .stop)
+
+pub contents-short : (s : List ℕ) (e : Element) → length (contents s e) ≤ length s
+contents-short s e = length-part s (e .start) (e .stop)
+
+-- "The largest image is 33,717 octets."
+pub image-short : (image : List ℕ) (σ : Store) → Octets image → decode image ≡ some σ → length image ≤ imageRoom
+image-short image σ o d = rw (encode-decode image σ o d) at (encode-length σ (decode-wellFormed image σ d))
+
+-- a Query's response, as the code reads it from an image
+pub response-of : (msgRef image : List ℕ) (σ : Store) → wellFormed σ ≡ true → image ≡ encode σ
+    → statusResponse msgRef (map identifierIn (recordsOf image)) (communitiesOf image) ≡ statusResponse msgRef (identifiers σ) (σ .communities)
+response-of msgRef image σ w e =
+    let d : decode image ≡ some σ = ap decode e ∙ decode-encode σ w in
+    ap₂ (statusResponse msgRef) (identifiers-of image σ d) (parts image σ d .communities)
+
+-- parts of a short message are short
+module _ (s : List ℕ) (e : Element) {m : List ℕ} (short : length s ≤ maxMessage) where
+  pub whole-fits : m ≡ whole s e → length m ≤ maxMessage
+  whole-fits f = omega (arith, ap length f, whole-short s e)
+
+  pub contents-fits : m ≡ contents s e → length m ≤ maxMessage
+  contents-fits f = omega (arith, ap length f, contents-short s e)

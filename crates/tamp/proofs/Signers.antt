@@ -1,0 +1,146 @@
+-- What the code reads of an accepted message: its signer's place in the image, and its number.
+use Prim.Native.Nat.{ℕ, suc, _+_, _≤_, _<_}
+use native.Mathlib.Omega.{arith}
+use mathlib.Core.Bool.{Bool, true, false, true≢false}
+use mathlib.Core.List.{List}
+use mathlib.Core.Option.{some}
+use mathlib.Core.Path.{_≡_, sym, ap, ap₂, _∙_}
+use lib.ListN.{length, take, drop, getD}
+use lib.Seq.{split-at, length-take-le}
+use Rattle.octets.specs.Limits.{imageRoom}
+use Rattle.octets.specs.First.{givenIf}
+use Rattle.octets.specs.Octets.{Octets, placed}
+use Rattle.octets.proofs.Placed.{length-placed, take-behind-placed}
+use Rattle.der.specs.Element.{contents, field}
+use Rattle.store.specs.declared.Found.{Found}
+use Rattle.store.specs.declared.Found.the-variants as found
+use Rattle.store.specs.Store.{Store, anchors, identifiers}
+use Rattle.store.specs.Image.{encodeNumber, encode, decode, wellFormed}
+use Rattle.store.specs.Parts.{firstRecord, recordPlace}
+use Rattle.store.specs.Signer.{signer}
+use Rattle.store.proofs.RoundTrip.{encode-decode, decode-wellFormed}
+use Rattle.store.proofs.Sizes.{length-encodeNumber}
+use Rattle.edit.specs.Places.{placeOf}
+use Rattle.edit.proofs.Places.{place-inside, end-inside}
+use Rattle.envelope.specs.declared.Refusal.{Refusal}
+use Rattle.message.specs.declared.Request.{Request}
+use Rattle.message.specs.declared.Received.{Received}
+use Rattle.message.specs.declared.Received.the-variants.{Asks, Refused}
+use Rattle.message.specs.Fields.{seqNumIn}
+use Rattle.message.specs.Rows.{received}
+use Rattle.message.proofs.Asked.{asked-number}
+use Rattle.message.proofs.Numbers.{readNumber, asked-seqNum}
+use Rattle.protocol.specs.declared.Judgement.{Judgement}
+use Rattle.protocol.specs.declared.Judgement.the-variants.{Refuses, Accepts}
+use Rattle.protocol.specs.Acceptance.{weighed, bySigner, judgementOf, judgement}
+use Rattle.protocol.specs.Effect.{withNumber}
+use Rattle.protocol.proofs.Lists.{given-next}
+use Rattle.protocol.proofs.Answer.{accepted-asks}
+use Rattle.protocol.proofs.WellFormed.{good-store, store-good, good-withNumber}
+use Rattle.accept.proofs.Anchors.{signer-anchor}
+use Rattle.apply.proofs.Edits.{set-number-step}
+use Rattle.apply.proofs.Image.{record-place}
+use Rattle.tamp.specs.Given.{Signed, Renumbers}
+use Rattle.tamp.proofs.Parts.{image-short}
+
+-- the signer stands at a position of the store
+module _ (σ : Store) (s : List ℕ) {q : Request} {i : ℕ} where
+  Refuses≢Accepts : {r : Refusal} → Refuses r ≡ Accepts q i → ⊥
+  Refuses≢Accepts e = let z : _≡_ {A = Bool} true false = cc in true≢false z
+
+  weighed-at : (q′ : Request) (j : ℕ) → weighed σ s q′ j ≡ Accepts q i → j ≡ i
+  unfolding weighed
+  weighed-at q′ j e = let z = row _ _ _ (row _ _ _ (row _ _ _ e)) in cc
+    where
+      row : (b : Bool) (r : Refusal) (j : Judgement) → givenIf b (Refuses r) j ≡ Accepts q i → j ≡ Accepts q i
+      row b r j e = given-next b (Refuses r) j Refuses≢Accepts e
+
+  signer-at : (q′ : Request) (f : Found) → bySigner σ s q′ f ≡ Accepts q i → f ≡ found.At i
+  unfolding bySigner
+  signer-at q′ (found.At j) e = ap found.At (weighed-at q′ j e)
+  signer-at q′ found.Unverified e = absurd (Refuses≢Accepts e)
+  signer-at q′ found.Unknown e = absurd (Refuses≢Accepts e)
+
+  accepted-inside : (verdict : List ℕ) → judgement σ verdict s ≡ Accepts q i → i < length (anchors σ)
+  unfolding judgement judgementOf
+  accepted-inside verdict e = go (received s) e
+    where
+      go : (r : Received) → judgementOf σ verdict s r ≡ Accepts q i → i < length (anchors σ)
+      go (Refused r) a = absurd (Refuses≢Accepts a)
+      go (Asks q′) a = signer-anchor verdict (contents s (q′ .signer)) i σ (signer-at q′ (signer (identifiers σ) verdict (contents s (q′ .signer))) a)
+
+  pub signed : (image verdict : List ℕ) → decode image ≡ some σ → judgement σ verdict s ≡ Accepts q i → Signed s q i image
+  signed image verdict d e =
+      record { asks = accepted-asks σ s verdict e; store = σ; decodes = d; inside = accepted-inside verdict e }
+
+-- "its number becomes the signer's"
+module _ (s : List ℕ) (q : Request) (i : ℕ) (image : List ℕ) (os : Octets s) (oi : Octets image) (asks : received s ≡ Asks q) where
+  module _ (σ : Store) (d : decode image ≡ some σ) (inside : i < length (anchors σ)) where
+    place-is : recordPlace image (firstRecord image) i ≡ placeOf σ i
+    place-is =
+        let e = encode-decode image σ oi d in
+        ap (λ (m : List ℕ). recordPlace m (firstRecord m) i) (sym e) ∙ record-place σ (decode-wellFormed image σ d) i (omega arith)
+
+    renumbered : (work : List ℕ) → imageRoom ≤ length work → length image ≤ imageRoom
+        → take (length image) (placed (placed work 0 image) (placeOf σ i) (encodeNumber (some (seqNumIn s (q .msgref))))) ≡ encode (withNumber i (seqNumIn s (q .msgref)) σ)
+    renumbered work room short =
+        let z : 0 + length image ≡ length image = omega arith in
+        let held : take (length image) (placed work 0 image) ≡ encode σ =
+        ap (λ (k : ℕ). take k (placed work 0 image)) (sym z) ∙ take-behind-placed work 0 image (omega arith) ∙ sym (encode-decode image σ oi d)
+        in
+        let size = length-placed work 0 image (omega arith) in
+        set-number-step σ (placed work 0 image) (length image) held (omega arith) i (seqNumIn s (q .msgref)) inside
+
+    good-after : wellFormed (withNumber i (seqNumIn s (q .msgref)) σ) ≡ true
+    good-after =
+        store-good (withNumber i (seqNumIn s (q .msgref)) σ)
+        (good-withNumber i (seqNumIn s (q .msgref)) σ (asked-number s q asks os) (good-store σ (decode-wellFormed image σ d)))
+
+    place-room : placeOf σ i + 9 ≤ length image
+    place-room =
+        let l = anchors σ in
+        let n : length (take i l) ≡ i = length-take-le i l (omega arith) in
+        let h = place-inside σ (take i l) (drop (suc i) l) (getD l i (σ .apex)) (split-at l i (σ .apex) inside) .1 in
+        let p : placeOf σ (length (take i l)) ≡ placeOf σ i = ap (placeOf σ) n in
+        omega (arith, end-inside σ, ap length (encode-decode image σ oi d))
+
+some-same : {A : Type 0} {x y : A} → some x ≡ some y → x ≡ y
+some-same e = cc
+
+pub signed-inside : (s : List ℕ) (q : Request) (i : ℕ) (image : List ℕ) → Signed s q i image → (σ : Store) → decode image ≡ some σ → i < length (anchors σ)
+signed-inside s q i image g σ d =
+    let e : g .store ≡ σ = some-same (sym (g .decodes) ∙ d) in
+    rw e at (g .inside)
+
+module _ (s : List ℕ) (q : Request) (i : ℕ) (image work : List ℕ) (os : Octets s) (oi : Octets image) (g : Signed s q i image) (room : imageRoom ≤ length work) where
+  pub copy-fits : 0 + length image ≤ length work
+  copy-fits = omega (arith, image-short image (g .store) oi (g .decodes))
+
+  module _ {work′ : List ℕ} {p : ℕ} (w : work′ ≡ placed work 0 image) (e : p ≡ recordPlace image (firstRecord image) i) where
+    pub number-fits : p + 9 ≤ length work′
+    number-fits =
+        let h = place-room s q i image os oi (g .asks) (g .store) (g .decodes) (g .inside) in
+        let k = place-is s q i image os oi (g .asks) (g .store) (g .decodes) (g .inside) in
+        omega (arith, ap length w, length-placed work 0 image copy-fits, image-short image (g .store) oi (g .decodes))
+
+    pub renumber-done : {n : ℕ} {work″ : List ℕ} → n ≡ readNumber s (field 0x02 s (q .msgref)) → work″ ≡ placed work′ p (encodeNumber (some n))
+        → Renumbers s q i image work (length image) work″
+    renumber-done {n} {work″} f x =
+        let short = image-short image (g .store) oi (g .decodes) in
+        let size : length work″ ≡ length work =
+        ap length x ∙ length-placed work′ p (encodeNumber (some n)) (omega (arith, number-fits, length-encodeNumber (some n))) ∙ ap length w ∙ length-placed work 0 image copy-fits
+        in (
+          size,
+          λ σ d.
+              let inside = signed-inside s q i image g σ d in
+              let all : work″ ≡ placed (placed work 0 image) (placeOf σ i) (encodeNumber (some (seqNumIn s (q .msgref)))) =
+              x
+              ∙ ap (λ (b : List ℕ). placed b p (encodeNumber (some n))) w
+              ∙ ap₂ (λ (a m : ℕ). placed (placed work 0 image) a (encodeNumber (some m))) (e ∙ place-is s q i image os oi (g .asks) σ d inside) (f ∙ asked-seqNum s q (g .asks))
+              in
+              record {
+                image = ap (take (length image)) all ∙ renumbered s q i image os oi (g .asks) σ d inside work room short;
+                inside = omega (arith, size);
+                good = good-after s q i image os oi (g .asks) σ d inside;
+              },
+        )

@@ -1,0 +1,58 @@
+-- What the parts of the call are given, once the house refusals 201 to 204 are past.
+use Prim.Native.Nat.{ℕ, _≤_, _<_}
+use mathlib.Core.Bool.{Bool, true, _&&_}
+use mathlib.Core.List.{List}
+use mathlib.Core.Option.{some}
+use mathlib.Core.Path.{_≡_}
+use lib.ListN.{length}
+use lib.Dec.{leb, eqb}
+use Rattle.octets.specs.Limits.{replyRoom, imageRoom, maxMessage}
+use Rattle.octets.specs.Lists.{allOf}
+use Rattle.store.specs.Store.{Store, anchors}
+use Rattle.store.specs.Image.{encode, decode, wellFormed}
+use Rattle.store.specs.Parts.{anchorCount}
+use Rattle.message.specs.declared.Request.{Request}
+use Rattle.message.specs.declared.Received.the-variants.{Asks}
+use Rattle.message.specs.Rows.{received}
+use Rattle.message.specs.Fields.{seqNumIn}
+use Rattle.protocol.specs.Effect.{withNumber}
+use Rattle.syntax.specs.declared.TampType.{TampType}
+use Rattle.apply.specs.Scratch.{Holds, Scratch}
+
+-- 202, by the image's count of anchors
+abbrev pub isVerdict : List ℕ → List ℕ → Bool
+isVerdict image verdict = eqb (length verdict) (anchorCount image) && allOf (λ v. leb v 1) verdict
+
+-- 203 and 204: there is room for every reply and every image, and the message is short
+pub record Rooms (s said store : List ℕ) : Type 0 where
+  pub message : length s ≤ maxMessage
+  pub reply : replyRoom ≤ length said
+  pub next : imageRoom ≤ length store
+
+-- 201: the image has a store
+pub record Stored (image : List ℕ) : Type 0 where
+  pub store : Store
+  pub decodes : decode image ≡ some store
+
+-- s asks q, and the anchor at position i is its signer
+pub record Signed (s : List ℕ) (q : Request) (i : ℕ) (image : List ℕ) : Type 0 where
+  pub asks : received s ≡ Asks q
+  pub store : Store
+  pub decodes : decode image ≡ some store
+  pub inside : i < length (anchors store)
+
+-- the scratch d holds the store with the signer's number set, in its first r octets
+abbrev pub Renumbers : List ℕ → Request → ℕ → List ℕ → List ℕ → ℕ → List ℕ → Type 0
+Renumbers s q i image d r d′ =
+    (length d′ ≡ length d)
+    × ((σ : Store) → decode image ≡ some σ → Holds (withNumber i (seqNumIn s (q .msgref)) σ) d′ r)
+
+-- octets are the image of the well-formed store σ
+abbrev pub Encodes : Store → List ℕ → Type 0
+Encodes σ image = (wellFormed σ ≡ true) × (image ≡ encode σ)
+
+-- s asks for an Update or a Community Update q, and the scratch d holds a store, with room for the largest image
+pub record Updating (s : List ℕ) (q : Request) (kind : TampType) (d : List ℕ) (len : ℕ) : Type 0 where
+  pub asks : received s ≡ Asks q
+  pub is : q .kind ≡ kind
+  pub scratch : Scratch d len

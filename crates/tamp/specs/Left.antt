@@ -1,0 +1,48 @@
+-- What a call returns and leaves in the two lent buffers: by the code, and by the rule book.
+use Prim.Native.Nat.{ℕ}
+use mathlib.Core.List.{List}
+use mathlib.Core.Path.{_≡_}
+use lib.ListN.{length}
+use Rattle.octets.specs.declared.Status.{Status}
+use Rattle.store.specs.Image.{encode}
+use Rattle.protocol.specs.Effect.{Effect}
+use Rattle.protocol.specs.Call.{Outcome, answered, guarded, numberOf, replyOf, nextOf, replyBuffer, nextBuffer}
+use Rattle.tamp.specs.declared.Answer.{Answer}
+
+-- the number, both lengths, and every octet of both buffers
+pub record Left : Type 0 where
+  pub number : ℕ
+  pub replyLength : ℕ
+  pub nextLength : ℕ
+  pub reply : List ℕ
+  pub next : List ℕ
+
+-- the code's answer, and its buffers at exit
+abbrev pub left : Answer → List ℕ → List ℕ → Left
+left r reply next = record { number = r .number; replyLength = r .«reply_len»; nextLength = r .«next_len»; reply = reply; next = next }
+
+-- the rule book's outcome, on the buffers that were lent
+unfoldable pub leaves : Outcome → List ℕ → List ℕ → Left
+leaves o reply next =
+    record {
+      number = numberOf o .number;
+      replyLength = length (replyOf o);
+      nextLength = length (nextOf o);
+      reply = replyBuffer o reply;
+      next = nextBuffer o next;
+    }
+
+-- the two constructors of an answer
+abbrev pub refusal : Status → Answer
+refusal status = record { number = status .number; «reply_len» = 0; «next_len» = 0 }
+
+abbrev pub answer : Status → ℕ → ℕ → Answer
+answer status reply next = record { number = status .number; «reply_len» = reply; «next_len» = next }
+
+-- the code answers with a status, a reply and a next store, unless the reply is too long (205)
+abbrev pub Answers : Status → List ℕ → List ℕ → Answer → List ℕ → List ℕ → List ℕ → List ℕ → Type 0
+Answers status said store r reply next reply′ next′ = left r reply′ next′ ≡ leaves (guarded (answered status said store)) reply next
+
+-- .. with those of an effect
+abbrev pub AnswersBy : Effect → Answer → List ℕ → List ℕ → List ℕ → List ℕ → Type 0
+AnswersBy e r reply next reply′ next′ = Answers (e .status) (e .reply) (encode (e .store)) r reply next reply′ next′

@@ -1,0 +1,3 @@
+pub mod Left
+pub mod Given
+pub mod Demand3

@@ -1,0 +1,405 @@
+// The call (01, Answers): from message, image and verdict to reply and next store.
+ghost use mathlib.Core.Path.{_≡_};
+ghost use mathlib.Core.Bool.{true, _||_};
+ghost use mathlib.Core.List.{map};
+ghost use mathlib.Core.Option.{some};
+ghost use Prim.Native.Nat.{_≤_, _<_};
+ghost use lib.ListN.{length};
+ghost use lib.Dec.{leb, ltb};
+ghost use Rattle.octets.specs.Limits.{imageRoom, replyRoom};
+ghost use Rattle.octets.specs.Lists.{allOf};
+ghost use Rattle.octets.specs.Octets.{placed};
+ghost use Rattle.octets.specs.Status.{success};
+ghost use Rattle.der.specs.Element.{whole as wholeOf, contents as contentsOf};
+ghost use Rattle.syntax.specs.declared.TampType.the-variants.{CommunityUpdate, Update};
+ghost use Rattle.store.specs.Store.{Store};
+ghost use Rattle.store.specs.Image.{decode};
+ghost use Rattle.reply.specs.Replies.{tampError, updateConfirm};
+ghost use Rattle.reply.specs.Parts.{statusOf};
+ghost use Rattle.protocol.specs.Acceptance.{judgement};
+ghost use Rattle.protocol.specs.Effect.{queryEffect, adjustEffect, communityEffect, updateEffect, effect};
+ghost use Rattle.protocol.specs.Call.{answerOf, guarded, refusalReply, call};
+ghost use Rattle.apply.specs.Scratch.{Holds, signerRights};
+ghost use Rattle.tamp.specs.Left.{left, leaves, refusal as refusalOf, answer as answerWith, Answers, AnswersBy};
+ghost use Rattle.tamp.specs.Given.{isVerdict, Rooms, Stored, Signed, Renumbers, Encodes, Updating};
+use der::Element;
+use envelope::Refusal;
+use message::Request;
+use octets::Status;
+use protocol::Judgement;
+use syntax::TampType;
+
+// 01, Answers: the rooms of 203, the reply of 205, the message of 204.
+const REPLY_ROOM: usize = 10240;
+
+const IMAGE_ROOM: usize = 33717;
+
+const MAX_MESSAGE: usize = 8192;
+
+// 01, After acceptance: "1 to 16 entries".
+const MAX_UPDATES: usize = 16;
+
+// What the call returns: the number, and how much was written of the reply and of the next store.
+#[repr(C)]
+pub struct Answer {
+    pub number: u32,
+    pub reply_len: u64,
+    pub next_len: u64,
+}
+
+impl Answer {
+    // A house refusal: both lengths 0, nothing written.
+    pub fn refusal(status: Status) -> Answer
+        ensures { λ r. ⌜ r ≡ refusalOf status ⌝ }
+    {
+        Answer {
+            number: status.number,
+            reply_len: 0,
+            next_len: 0,
+        }
+    }
+
+    // An answer with a TAMP status.
+    pub fn reply(status: Status, reply: usize, next: usize) -> Answer
+        ensures { λ r. ⌜ r ≡ answerWith status reply next ⌝ }
+    {
+        Answer {
+            number: status.number,
+            reply_len: reply as u64,
+            next_len: next as u64,
+        }
+    }
+}
+
+// 202: no octet is above 1.
+fn is_binary(verdict: &[u8]) -> bool
+    ensures { λ r. ⌜ r ≡ allOf (λ v. leb v 1) (now (verdict .entry)) ⌝ }
+{
+    let mut i = 0;
+    while i < verdict.len() {
+        if 1 < verdict[i] {
+            return false;
+        }
+        i += 1;
+    }
+    true
+}
+
+// 202: the verdict has an octet for each anchor, 0 or 1.
+fn is_verdict(image: &[u8], verdict: &[u8]) -> bool
+    ensures { λ r. ⌜ r ≡ isVerdict (now (image .entry)) (now (verdict .entry)) ⌝ }
+{
+    if verdict.len() != store::anchor_count(image) {
+        return false;
+    }
+    is_binary(verdict)
+}
+
+// 203: the reply buffer is under 10,240 octets or the next store buffer under 33,717.
+fn is_small(reply: usize, next: usize) -> bool
+    ensures { λ r. ⌜ r ≡ (ltb reply replyRoom || ltb next imageRoom) ⌝ }
+{
+    if reply < REPLY_ROOM {
+        return true;
+    }
+    next < IMAGE_ROOM
+}
+
+// Writes the next store, behind a reply of n octets.
+fn finish(status: Status, n: usize, store: &[u8], next: &mut [u8]) -> Answer
+    requires { ⌜ length (now store) ≤ length (now next) ⌝ }
+    ensures { λ r. ⌜ (r ≡ answerWith status n (length (now (store .entry))))
+        × (now (next .exit) ≡ placed (now (next .entry)) 0 (now (store .entry))) ⌝ }
+{
+    octets::copy_to(next, 0, store);
+    Answer::reply(status, n, store.len())
+}
+
+// A TAMP Error about msgType, with msgRef where there is one.
+fn error(
+    s: &[u8],
+    about: Element,
+    status: Status,
+    msgref: Element,
+    store: &[u8],
+    reply: &mut [u8],
+    next: &mut [u8],
+) -> Answer
+    requires { ⌜ Rooms (now s) (now reply) (now next) × (status .number < 256) × (length (now store) ≤ imageRoom) ⌝ }
+    ensures { λ r.
+        ⌜ Answers
+        status
+        (tampError (contentsOf (now (s .entry)) about) status (wholeOf (now (s .entry)) msgref))
+        (now (store .entry))
+        r
+        (now (reply .entry))
+        (now (next .entry))
+        (now (reply .exit))
+        (now (next .exit)) ⌝ }
+{
+    let msgtype = der::contents(s, about);
+    let repeated = der::whole(s, msgref);
+    if REPLY_ROOM < reply::error_size(msgtype, repeated) {
+        return Answer::refusal(Status::LONG_REPLY);
+    }
+    let n = reply::put_error(reply, msgtype, status, repeated);
+    finish(status, n, store, next)
+}
+
+// "Statuses 1, 2, 3 and 4 have no reply (length 0). The rest reply with a TAMP Error". The store stays.
+fn refuse(s: &[u8], r: Refusal, image: &[u8], reply: &mut [u8], next: &mut [u8]) -> Answer
+    requires { ⌜ Rooms (now s) (now reply) (now next) × (r .status .number < 256) × (length (now image) ≤ imageRoom) ⌝ }
+    ensures { λ a.
+        ⌜ Answers
+        (r .status)
+        (refusalReply (now (s .entry)) r)
+        (now (image .entry))
+        a
+        (now (reply .entry))
+        (now (next .entry))
+        (now (reply .exit))
+        (now (next .exit)) ⌝ }
+{
+    let about = r.msgtype;
+    let status = r.status;
+    if !about.good {
+        return finish(status, 0, image, next);
+    }
+    error(s, about, status, r.msgref, image, reply, next)
+}
+
+// Query: "identifiers in store order, then communities unless there are none".
+fn query<'a>(s: &'a [u8], q: Request, store: &'a [u8], reply: &mut [u8], next: &mut [u8]) -> Answer
+    requires { ⌜ Rooms (now s) (now reply) (now next) × (length (now store) ≤ imageRoom) ⌝ }
+    ensures { λ r.
+        ⌜ ((σ : Store) → Encodes σ (now (store .entry)) →
+        AnswersBy
+        (queryEffect (now (s .entry)) q σ)
+        r
+        (now (reply .entry))
+        (now (next .entry))
+        (now (reply .exit))
+        (now (next .exit))) ⌝ }
+{
+    let msgref = der::whole(s, q.msgref);
+    if REPLY_ROOM < reply::response_size(msgref, store) {
+        return Answer::refusal(Status::LONG_REPLY);
+    }
+    let n = reply::put_status_response(reply, msgref, store);
+    finish(Status::SUCCESS, n, store, next)
+}
+
+// Adjust: 0.
+fn adjust(s: &[u8], q: Request, store: &[u8], reply: &mut [u8], next: &mut [u8]) -> Answer
+    requires { ⌜ Rooms (now s) (now reply) (now next) × (length (now store) ≤ imageRoom) ⌝ }
+    ensures { λ r.
+        ⌜ ((σ : Store) → Encodes σ (now (store .entry)) →
+        AnswersBy
+        (adjustEffect (now (s .entry)) q σ)
+        r
+        (now (reply .entry))
+        (now (next .entry))
+        (now (reply .exit))
+        (now (next .exit))) ⌝ }
+{
+    let msgref = der::whole(s, q.msgref);
+    if REPLY_ROOM < reply::confirm_size(msgref) {
+        return Answer::refusal(Status::LONG_REPLY);
+    }
+    let n = reply::put_adjust_confirm(reply, msgref);
+    finish(Status::SUCCESS, n, store, next)
+}
+
+// The confirm of an Update, a status octet for each entry.
+fn confirm<'a>(
+    s: &'a [u8],
+    q: Request,
+    codes: &'a [u8],
+    store: &[u8],
+    reply: &mut [u8],
+    next: &mut [u8],
+) -> Answer
+    requires { ⌜ Rooms (now s) (now reply) (now next) × (length (now codes) ≤ 16) × (length (now store) ≤ imageRoom) ⌝ }
+    ensures { λ r.
+        ⌜ Answers
+        success
+        (updateConfirm (wholeOf (now (s .entry)) (q .msgref)) (map statusOf (now (codes .entry))))
+        (now (store .entry))
+        r
+        (now (reply .entry))
+        (now (next .entry))
+        (now (reply .exit))
+        (now (next .exit)) ⌝ }
+{
+    let msgref = der::whole(s, q.msgref);
+    if REPLY_ROOM < reply::update_size(msgref, codes.len()) {
+        return Answer::refusal(Status::LONG_REPLY);
+    }
+    let n = reply::put_update_confirm(reply, msgref, codes);
+    finish(Status::SUCCESS, n, store, next)
+}
+
+// "its number becomes the signer's": the image with it, in scratch. Gives the length.
+fn renumber(s: &[u8], q: Request, i: usize, image: &[u8], work: &mut [u8]) -> usize
+    requires { ⌜ Signed (now s) q i (now image) × (imageRoom ≤ length (now work)) ⌝ }
+    ensures { λ r. ⌜ Renumbers (now (s .entry)) q i (now (image .entry)) (now (work .entry)) r (now (work .exit)) ⌝ }
+{
+    octets::copy_to(work, 0, image);
+    let n = message::number_in(s, der::field(s, q.msgref, 0x02));
+    edit::set_number(work, store::record_place(image, i), n);
+    image.len()
+}
+
+// Community Update: "call and confirm carry the code".
+fn community(
+    s: &[u8],
+    q: Request,
+    work: &mut [u8],
+    len: usize,
+    reply: &mut [u8],
+    next: &mut [u8],
+) -> Answer
+    requires { ⌜ Rooms (now s) (now reply) (now next) × Updating (now s) q CommunityUpdate (now work) len ⌝ }
+    ensures { λ r.
+        ⌜ ((σ : Store) → Holds σ (now (work .entry)) len →
+        AnswersBy
+        (communityEffect (now (s .entry)) q σ)
+        r
+        (now (reply .entry))
+        (now (next .entry))
+        (now (reply .exit))
+        (now (next .exit))) ⌝ }
+{
+    let done = apply::community_update(s, q, work, len);
+    let end = done.len;
+    let status = done.status;
+    let msgref = der::whole(s, q.msgref);
+    if REPLY_ROOM < reply::confirm_size(msgref) {
+        return Answer::refusal(Status::LONG_REPLY);
+    }
+    let n = reply::put_community_confirm(reply, msgref, status);
+    finish(status, n, &work[..end], next)
+}
+
+// Update: over 16 entries 17 for the message as a whole, by TAMP Error; else each entry in turn, by the rights of the anchor at position i of the image.
+fn update(
+    s: &[u8],
+    q: Request,
+    image: &[u8],
+    i: usize,
+    work: &mut [u8],
+    len: usize,
+    reply: &mut [u8],
+    next: &mut [u8],
+) -> Answer
+    requires { ⌜ Rooms (now s) (now reply) (now next) × Updating (now s) q Update (now work) len ⌝ }
+    ensures { λ r.
+        ⌜ ((σ : Store) → Holds σ (now (work .entry)) len →
+        AnswersBy
+        (updateEffect (now (s .entry)) q (signerRights (now (image .entry)) i) σ)
+        r
+        (now (reply .entry))
+        (now (next .entry))
+        (now (reply .exit))
+        (now (next .exit))) ⌝ }
+{
+    let count = message::count(s, message::updates_in(s, q.body, q.msgref));
+    if MAX_UPDATES < count {
+        return error(
+            s,
+            q.msgtype,
+            Status::INSUFFICIENT_MEMORY,
+            q.msgref,
+            &work[..len],
+            reply,
+            next,
+        );
+    }
+    let mut codes = [0u8; 16];
+    let end = apply::update(s, q, image, i, work, len, &mut codes);
+    confirm(s, q, &codes[..count], &work[..end], reply, next)
+}
+
+// An accepted request of the anchor at position i.
+fn accepted(
+    s: &[u8],
+    q: Request,
+    i: usize,
+    image: &[u8],
+    reply: &mut [u8],
+    next: &mut [u8],
+) -> Answer
+    requires { ⌜ Rooms (now s) (now reply) (now next) × Signed (now s) q i (now image) ⌝ }
+    ensures { λ r.
+        ⌜ ((σ : Store) → decode (now (image .entry)) ≡ some σ →
+        AnswersBy
+        (effect (now (s .entry)) q i σ)
+        r
+        (now (reply .entry))
+        (now (next .entry))
+        (now (reply .exit))
+        (now (next .exit))) ⌝ }
+{
+    let mut work = [0u8; 33717];
+    let len = renumber(s, q, i, image, &mut work);
+    let kind = q.kind;
+    match kind {
+        TampType::StatusQuery => query(s, q, &work[..len], reply, next),
+        TampType::Update => update(s, q, image, i, &mut work, len, reply, next),
+        TampType::CommunityUpdate => community(s, q, &mut work, len, reply, next),
+        TampType::SeqNumAdjust => adjust(s, q, &work[..len], reply, next),
+    }
+}
+
+// The answer with a TAMP status, or 205.
+fn decide(message: &[u8], image: &[u8], verdict: &[u8], reply: &mut [u8], next: &mut [u8]) -> Answer
+    requires { ⌜ Rooms (now message) (now reply) (now next) × Stored (now image) ⌝ }
+    ensures { λ r.
+        ⌜ ((σ : Store) → decode (now (image .entry)) ≡ some σ →
+        left r (now (reply .exit)) (now (next .exit))
+        ≡ leaves
+        (guarded (answerOf (now (message .entry)) (now (image .entry)) σ (judgement σ (now (verdict .entry)) (now (message .entry)))))
+        (now (reply .entry))
+        (now (next .entry))) ⌝ }
+{
+    match accept::judge(message, image, verdict) {
+        Judgement::Refuses(r) => refuse(message, r, image, reply, next),
+        Judgement::Accepts(q, i) => accepted(message, q, i, image, reply, next),
+    }
+}
+
+// The call: 201 to 204 in their order, then 205 or the answer.
+#[no_mangle]
+pub extern "C" fn tamp_call(
+    message: &[u8],
+    image: &[u8],
+    verdict: &[u8],
+    reply: &mut [u8],
+    next: &mut [u8],
+) -> Answer
+    ensures { λ r.
+        ⌜ left r (now (reply .exit)) (now (next .exit))
+        ≡ leaves
+        (call
+        (now (message .entry))
+        (now (image .entry))
+        (now (verdict .entry))
+        (length (now (reply .entry)))
+        (length (now (next .entry))))
+        (now (reply .entry))
+        (now (next .entry)) ⌝ }
+{
+    if !image::is_image(image) {
+        return Answer::refusal(Status::BAD_IMAGE);
+    }
+    if !is_verdict(image, verdict) {
+        return Answer::refusal(Status::BAD_VERDICT);
+    }
+    if is_small(reply.len(), next.len()) {
+        return Answer::refusal(Status::SMALL_BUFFER);
+    }
+    if MAX_MESSAGE < message.len() {
+        return Answer::refusal(Status::LONG_MESSAGE);
+    }
+    decide(message, image, verdict, reply, next)
+}

@@ -1,0 +1,59 @@
+#!/usr/bin/env python3
+"""Calls for the program tamp_call.
+
+    tools/calls.py CALLS [PROGRAM]    runs the calls of a file (one JSON object a line: message, image and verdict in hex, the two rooms; status, reply and next
+                                      store, or same_next) through PROGRAM and compares number, reply and store
+    tools/calls.py CALLS --gate       writes crates/tamp_call/stdin and stdout: the calls of the paper, and one call for each status and house refusal
+
+PROGRAM is target/bin/tamp_call, as `rt check tamp_call` leaves it. A call that the program does not take (over its limits) is left out.
+"""
+import json, subprocess, sys
+
+
+def frame(c):
+    parts = [bytes.fromhex(c[k]) for k in ('message', 'image', 'verdict')]
+    numbers = [len(p) for p in parts] + [c['reply_room'], c['next_room']]
+    return b''.join(n.to_bytes(4, 'big') for n in numbers) + b''.join(parts)
+
+
+def expected(c):
+    refused = 201 <= c['status'] <= 205
+    store = '' if refused else c['image'] if c.get('same_next') else c['next']
+    return [f"status {c['status']}", f"reply {c['reply'].upper() or '-'}", f"store {store.upper() or '-'}"]
+
+
+def taken(c):
+    return len(c['message']) <= 2 * 16384 and len(c['image']) <= 2 * 131072 and len(c['verdict']) <= 2 * 255 and max(c['reply_room'], c['next_room']) <= 131072
+
+
+def gate(calls):
+    chosen, seen = [], set()
+    for c in calls:
+        if c['name'].startswith('paper.') or c['status'] not in seen:
+            chosen.append(c)
+            seen.add(c['status'])
+    # 202, which the file may lack: a verdict with an octet too few
+    c = chosen[0]
+    chosen.append({**c, 'verdict': c['verdict'][2:], 'status': 202, 'reply': ''})
+    open('crates/tamp_call/stdin', 'wb').write(b''.join(frame(c) for c in chosen))
+    open('crates/tamp_call/stdout', 'w').write(''.join(line + '\n' for c in chosen for line in expected(c)))
+    print(len(chosen), 'calls, statuses', sorted(seen | {202}))
+
+
+def compare(calls, program):
+    written = subprocess.run([program], input=b''.join(frame(c) for c in calls), capture_output=True, check=True).stdout.decode().splitlines()
+    wrong = abs(len(written) - 3 * len(calls))
+    for i, c in enumerate(calls):
+        found = written[3 * i:3 * i + 3]
+        if found != expected(c):
+            wrong += 1
+            print(c['name'], 'expected', [x[:60] for x in expected(c)], 'found', [x[:60] for x in found])
+    print(len(calls), 'calls,', wrong, 'wrong')
+    sys.exit(1 if wrong else 0)
+
+
+calls = [c for c in (json.loads(line) for line in open(sys.argv[1])) if taken(c)]
+if sys.argv[2:] == ['--gate']:
+    gate(calls)
+else:
+    compare(calls, sys.argv[2] if len(sys.argv) > 2 else 'target/bin/tamp_call')
