@@ -27,42 +27,47 @@ Optional t g h =
 -- RFC 5652. SignedData: encapContentInfo, certificates, crls
 pub signedData-fields : Required 0x30 SignedData free × Optional 0xA0 SignedData free × Optional 0xA1 SignedData free
 unfolding fieldIn lacks onlyField
-signedData-fields =
-    (λ s at stop outer h. placed 0x30 s SignedData at stop outer h .0,
-    λ s at stop outer h. placed 0xA0 s SignedData at stop outer h,
-    λ s at stop outer h. placed 0xA1 s SignedData at stop outer h)
+signedData-fields = (
+  λ s at stop outer h. placed 0x30 s SignedData at stop outer h .0,
+  λ s at stop outer h. placed 0xA0 s SignedData at stop outer h,
+  λ s at stop outer h. placed 0xA1 s SignedData at stop outer h,
+)
 
 -- eContentType, eContent
 pub encapContentInfo-fields : Required 0x06 EncapsulatedContentInfo free × Optional 0xA0 EncapsulatedContentInfo (required 0x04 free end)
 unfolding fieldIn lacks onlyField
-encapContentInfo-fields =
-    (λ s at stop outer h. placed 0x06 s EncapsulatedContentInfo at stop outer h .0,
-    λ s at stop outer h. placed 0xA0 s EncapsulatedContentInfo at stop outer h)
+encapContentInfo-fields = (
+  λ s at stop outer h. placed 0x06 s EncapsulatedContentInfo at stop outer h .0,
+  λ s at stop outer h. placed 0xA0 s EncapsulatedContentInfo at stop outer h,
+)
 
 -- subjectKeyIdentifier, signedAttrs, unsignedAttrs
 pub signerInfo-fields : Required 0x80 SignerInfo free × Optional 0xA0 SignerInfo free × Optional 0xA1 SignerInfo free
 unfolding fieldIn lacks onlyField
-signerInfo-fields =
-    (λ s at stop outer h. placed 0x80 s SignerInfo at stop outer h .0,
-    λ s at stop outer h. placed 0xA0 s SignerInfo at stop outer h,
-    λ s at stop outer h. placed 0xA1 s SignerInfo at stop outer h)
+signerInfo-fields = (
+  λ s at stop outer h. placed 0x80 s SignerInfo at stop outer h .0,
+  λ s at stop outer h. placed 0xA0 s SignerInfo at stop outer h,
+  λ s at stop outer h. placed 0xA1 s SignerInfo at stop outer h,
+)
 
 -- attrType, attrValues
 pub attribute-fields : (value : Syntax) → Required 0x06 (Attribute value) free × Required 0x31 (Attribute value) (one value end)
 unfolding fieldIn lacks onlyField
-attribute-fields value =
-    (λ s at stop outer h. placed 0x06 s (Attribute value) at stop outer h .0,
-    λ s at stop outer h. placed 0x31 s (Attribute value) at stop outer h .0)
+attribute-fields value = (
+  λ s at stop outer h. placed 0x06 s (Attribute value) at stop outer h .0,
+  λ s at stop outer h. placed 0x31 s (Attribute value) at stop outer h .0,
+)
 
 -- RFC 5914. TrustAnchorInfo: pubKey, keyId, exts; the members of an Extension
 pub trustAnchorInfo-fields : Required 0x30 TrustAnchorInfo SubjectPublicKeyInfo
     × Required 0x04 TrustAnchorInfo free
     × Optional 0xA1 TrustAnchorInfo (required 0x30 Extensions end)
 unfolding fieldIn lacks onlyField
-trustAnchorInfo-fields =
-    (λ s at stop outer h. placed 0x30 s TrustAnchorInfo at stop outer h .0,
-    λ s at stop outer h. placed 0x04 s TrustAnchorInfo at stop outer h .0,
-    λ s at stop outer h. placed 0xA1 s TrustAnchorInfo at stop outer h)
+trustAnchorInfo-fields = (
+  λ s at stop outer h. placed 0x30 s TrustAnchorInfo at stop outer h .0,
+  λ s at stop outer h. placed 0x04 s TrustAnchorInfo at stop outer h .0,
+  λ s at stop outer h. placed 0xA1 s TrustAnchorInfo at stop outer h,
+)
 
 pub extension-fields : Required 0x06 Extension free × Required 0x04 Extension free
 unfolding fieldIn lacks onlyField
@@ -72,9 +77,10 @@ extension-fields =
 -- RFC 5934. HardwareModules: hwType, hwSerialEntries; CommunityUpdates: remove, add
 pub hardwareModules-fields : Required 0x06 HardwareModules free × Required 0x30 HardwareModules (obeys notEmpty (many HardwareSerialEntry))
 unfolding fieldIn lacks onlyField
-hardwareModules-fields =
-    (λ s at stop outer h. placed 0x06 s HardwareModules at stop outer h .0,
-    λ s at stop outer h. placed 0x30 s HardwareModules at stop outer h .0)
+hardwareModules-fields = (
+  λ s at stop outer h. placed 0x06 s HardwareModules at stop outer h .0,
+  λ s at stop outer h. placed 0x30 s HardwareModules at stop outer h .0,
+)
 
 pub communityUpdates-fields : Optional 0xA1 CommunityUpdates CommunityIdentifierList × Optional 0xA2 CommunityUpdates CommunityIdentifierList
 unfolding fieldIn lacks onlyField
@@ -89,9 +95,10 @@ sequenceNumber-fields s at stop outer h = placed 0x04 s TAMPSequenceNumber at st
 -- RFC 6010. ContentTypeConstraint: contentType, attrConstraints; AttrConstraint: attrType, attrValues
 pub contentTypeConstraint-fields : Required 0x06 ContentTypeConstraint free × Optional 0x30 ContentTypeConstraint AttrConstraintList
 unfolding fieldIn lacks onlyField
-contentTypeConstraint-fields =
-    (λ s at stop outer h. placed 0x06 s ContentTypeConstraint at stop outer h .0,
-    λ s at stop outer h. placed 0x30 s ContentTypeConstraint at stop outer h)
+contentTypeConstraint-fields = (
+  λ s at stop outer h. placed 0x06 s ContentTypeConstraint at stop outer h .0,
+  λ s at stop outer h. placed 0x30 s ContentTypeConstraint at stop outer h,
+)
 
 pub attrConstraint-fields : Required 0x06 AttrConstraint free × Required 0x31 AttrConstraint (obeys notEmpty free)
 unfolding fieldIn lacks onlyField
