@@ -4,6 +4,7 @@ use mathlib.Core.Bool.{Bool, true, false}
 use mathlib.Core.List.{List, [], _∷_, _++_}
 use lib.ListN.{length}
 use lib.Dec.{ltb}
+pub use Rattle.edit.specs.Steps.{withOthers, withCommunities}
 use Rattle.octets.specs.declared.Status.{Status}
 use Rattle.octets.specs.Status.{success, insufficientMemory}
 use Rattle.octets.specs.Limits.{maxUpdates}
@@ -37,12 +38,6 @@ numberSet (suc i) n (a ∷ l) = a ∷ numberSet i n l
 unfoldable pub withNumber : ℕ → ℕ → Store → Store
 withNumber zero n σ = record { device = σ .device; apex = numbered n (σ .apex); others = σ .others; communities = σ .communities }
 withNumber (suc i) n σ = record { device = σ .device; apex = σ .apex; others = numberSet i n (σ .others); communities = σ .communities }
-
-abbrev pub withOthers : List Anchor → Store → Store
-withOthers l σ = record { device = σ .device; apex = σ .apex; others = l; communities = σ .communities }
-
-abbrev pub withCommunities : List (List ℕ) → Store → Store
-withCommunities l σ = record { device = σ .device; apex = σ .apex; others = σ .others; communities = l }
 
 -- Update. σ has the signer's number already; the rights are the signer's at acceptance. Over 16 entries: 17 for the message as a whole, by TAMP Error, and the number still moves.
 unfoldable pub updateEffect : List ℕ → Request → Rights → Store → Effect

@@ -5,6 +5,7 @@ use mathlib.Core.List.{List, [], _∷_, _++_, map}
 use mathlib.Core.Option.{Option, none, some}
 use lib.ListN.{length}
 use lib.Dec.{leb}
+pub use Rattle.edit.specs.Steps.{unnumbered, numbered}
 use Rattle.octets.specs.declared.Status.{Status}
 use Rattle.octets.specs.Status.{success, notAuthorized, insufficientMemory, apexTAMPAnchor, improperTAAddition, trustAnchorNotFound, improperTAChange}
 use Rattle.octets.specs.Limits.{maxAnchors}
@@ -31,10 +32,6 @@ pub record Step : Type 0 where
 -- the anchor that an add of t by these rights stores: as sent
 abbrev pub storedAs : Rights → List ℕ → List ℕ
 storedAs rights t = t
-
--- "appended without a number"
-abbrev pub unnumbered : List ℕ → Anchor
-unnumbered t = record { number = none; info = t }
 
 -- a failed entry, or one that has nothing to do
 abbrev pub unchanged : Status → List Anchor → List Anchor → Step
@@ -86,9 +83,6 @@ steps s rights apex old new (e ∷ es) =
     let one = step s rights apex old new e in
     let rest = steps s rights apex (one .old) (one .new) es in
     record { statuses = one .status ∷ rest .statuses; old = rest .old; new = rest .new }
-
-abbrev pub numbered : ℕ → Anchor → Anchor
-numbered n a = record { number = some n; info = a .info }
 
 -- "tampSeqNumbers in order: each sets the number of every anchor with that identifier that this message appended and that still stands"
 unfoldable pub stamped : List ℕ × ℕ → Anchor → Anchor
