@@ -1,13 +1,14 @@
 #!/usr/bin/env python3
 """Calls for the program tamp_call.
 
-    tools/calls.py CALLS [PROGRAM]    runs the calls of a file (one JSON object a line: message, image and verdict in hex, the two rooms; status, reply and next
-                                      store, or same_next) through PROGRAM and compares number, reply and store
-    tools/calls.py CALLS --gate       writes crates/tamp_call/stdin and stdout: the calls of the paper, and one call for each status and house refusal
+    tools/calls.py CALLS.. [--program PROGRAM]    runs the calls of the files (one JSON object a line: message, image and verdict in hex, the two rooms; status, reply and
+                                                  next store, or same_next) through PROGRAM and compares number, reply and store
+    tools/calls.py CALLS OUTSIDE.. --gate         writes crates/tamp_call/stdin and stdout: of CALLS those of the paper and one for each status and house refusal, then all
+                                                  of OUTSIDE (tools/outside_calls.py makes them)
 
 PROGRAM is target/bin/tamp_call, as `rt check tamp_call` leaves it. A call that the program does not take (over its limits) is left out.
 """
-import json, subprocess, sys
+import argparse, json, subprocess, sys
 
 
 def frame(c):
@@ -26,7 +27,11 @@ def taken(c):
     return len(c['message']) <= 2 * 16384 and len(c['image']) <= 2 * 131072 and len(c['verdict']) <= 2 * 255 and max(c['reply_room'], c['next_room']) <= 131072
 
 
-def gate(calls):
+def read(path):
+    return [c for c in map(json.loads, open(path)) if taken(c)]
+
+
+def gate(calls, outside):
     chosen, seen = [], set()
     for c in calls:
         if c['name'].startswith('paper.') or c['status'] not in seen:
@@ -35,9 +40,10 @@ def gate(calls):
     # 202, which the file may lack: a verdict with an octet too few
     c = chosen[0]
     chosen.append({**c, 'verdict': c['verdict'][2:], 'status': 202, 'reply': ''})
+    print(len(chosen), 'calls, statuses', sorted(seen | {202}), 'and', len(outside), 'from outside, statuses', sorted({c['status'] for c in outside}))
+    chosen += outside
     open('crates/tamp_call/stdin', 'wb').write(b''.join(frame(c) for c in chosen))
     open('crates/tamp_call/stdout', 'w').write(''.join(line + '\n' for c in chosen for line in expected(c)))
-    print(len(chosen), 'calls, statuses', sorted(seen | {202}))
 
 
 def compare(calls, program):
@@ -52,8 +58,13 @@ def compare(calls, program):
     sys.exit(1 if wrong else 0)
 
 
-calls = [c for c in (json.loads(line) for line in open(sys.argv[1])) if taken(c)]
-if sys.argv[2:] == ['--gate']:
-    gate(calls)
+parser = argparse.ArgumentParser()
+parser.add_argument('files', nargs='+')
+parser.add_argument('--program', default='target/bin/tamp_call')
+parser.add_argument('--gate', action='store_true')
+given = parser.parse_args()
+calls = [read(path) for path in given.files]
+if given.gate:
+    gate(calls[0], sum(calls[1:], []))
 else:
-    compare(calls, sys.argv[2] if len(sys.argv) > 2 else 'target/bin/tamp_call')
+    compare(sum(calls, []), given.program)

@@ -1,16 +1,15 @@
-#!/usr/bin/python3
+#!/usr/bin/python3 -B
 """outside.py: makes crates/tamp_read/stdin and stdout from messages of two outside tools: `openssl cms -sign` with fresh keys (tools/sign.sh) and Debian's python3-pyasn1-modules.
 
 Run it at the top of the repository. What the program must write is said here from what was put in: the type, the signer's key identifier, the number and the count of entries, or the status
 and the offset of the element that breaks the rule (found with `openssl asn1parse`, or as the place of the octets that were put in). Keys and times differ at each run.
 """
-import hashlib, os, re, subprocess
+import hashlib, re, subprocess
 from pyasn1.codec.der.encoder import encode
-from pyasn1.type import char, tag, univ
-from pyasn1_modules import rfc5280, rfc5652, rfc5914, rfc5934, rfc6010
+from pyasn1.type import univ
+from pyasn1_modules import rfc5652
+from outside_tools import KINDS, Anchor, adjust, attribute, communities, content_info, ed25519, query, right, signed, update
 
-KINDS = {'statusQuery': rfc5934.id_ct_TAMP_statusQuery, 'update': rfc5934.id_ct_TAMP_update,
-         'communityUpdate': rfc5934.id_ct_TAMP_communityUpdate, 'seqNumAdjust': rfc5934.id_ct_TAMP_seqNumAdjust}
 CASES = []
 
 
@@ -18,102 +17,15 @@ def case(message, line):
     CASES.append((message, line))
 
 
-# -- messages (RFC 5934)
-
-def reference(type, number, **target):
-    """a TAMPMsgRef, or what the field of `type` has there"""
-    ref = type
-    (name, value), = target.items()
-    if name == 'hwModules':
-        for m, (hardware, entries) in enumerate(value):
-            module = ref['target']['hwModules'][m]
-            module['hwType'] = hardware
-            for e, entry in enumerate(entries):
-                if entry is None:
-                    module['hwSerialEntries'][e]['all'] = ''
-                elif isinstance(entry, bytes):
-                    module['hwSerialEntries'][e]['single'] = entry
-                else:
-                    module['hwSerialEntries'][e]['block']['low'], module['hwSerialEntries'][e]['block']['high'] = entry
-    elif name == 'communities':
-        ref['target']['communities'].extend(value)
-    else:
-        ref['target'][name] = value
-    ref['seqNum'] = number
-
-
-def query(number, terse='terse', version=None, **target):
-    q = rfc5934.TAMPStatusQuery()
-    if version is not None:
-        q['version'] = version
-    q['terse'] = terse
-    reference(q['query'], number, **target)
-    return encode(q)
+RIGHTS = [right('update'), right('communityUpdate', False, [('1.2.3.4', [encode(univ.Integer(7))])])]
 
 
 def key(n):
-    spki = rfc5280.SubjectPublicKeyInfo()
-    spki['algorithm']['algorithm'] = univ.ObjectIdentifier('1.3.101.112')
-    spki['subjectPublicKey'] = univ.BitString.fromOctetString(hashlib.sha256(bytes([n])).digest())
-    return spki
+    return ed25519(hashlib.sha256(bytes([n])).digest())
 
 
-def copy_key(place, n):
-    made = key(n)
-    place['algorithm']['algorithm'] = made['algorithm']['algorithm']
-    place['subjectPublicKey'] = made['subjectPublicKey']
-
-
-def anchor(info, n, constraints=False):
-    copy_key(info['pubKey'], n)
-    info['keyId'] = bytes([n])
-    info['taTitle'] = 'anchor %d' % n
-    if constraints:
-        list = rfc6010.CMSContentConstraints()
-        for i, type in enumerate(['update', 'communityUpdate']):
-            list[i]['contentType'] = KINDS[type]
-        list[1]['canSource'] = 'cannotSource'
-        list[1]['attrConstraints'][0]['attrType'] = univ.ObjectIdentifier('1.2.3.4')
-        list[1]['attrConstraints'][0]['attrValues'][0] = univ.Any(encode(univ.Integer(7)))
-        info['exts'][0]['extnID'] = rfc6010.id_pe_cmsContentConstraints
-        info['exts'][0]['critical'] = True
-        info['exts'][0]['extnValue'] = encode(list)
-
-
-def update(number, entries, numbers=(), terse='terse', **target):
-    u = rfc5934.TAMPUpdate()
-    u['terse'] = terse
-    reference(u['msgRef'], number, **target)
-    for i, (what, n) in enumerate(entries):
-        if what in ('add', 'add constrained'):
-            anchor(u['updates'][i]['add']['taInfo'], n, what == 'add constrained')
-        elif what == 'remove':
-            copy_key(u['updates'][i]['remove'], n)
-        else:
-            change = u['updates'][i]['change']['taChange']
-            copy_key(change['pubKey'], n)
-            change['taTitle'] = 'changed'
-    for i, (identifier, n) in enumerate(numbers):
-        u['tampSeqNumbers'][i]['keyId'] = identifier
-        u['tampSeqNumbers'][i]['seqNumber'] = n
-    return encode(u)
-
-
-def communities(number, remove=None, add=None, **target):
-    c = rfc5934.TAMPCommunityUpdate()
-    c['terse'] = 'terse'
-    reference(c['msgRef'], number, **target)
-    if remove is not None:
-        c['updates']['remove'].extend(remove)
-    if add is not None:
-        c['updates']['add'].extend(add)
-    return encode(c)
-
-
-def adjust(number, **target):
-    a = rfc5934.SequenceNumberAdjust()
-    reference(a['msgRef'], number, **target)
-    return encode(a)
+def anchor(n, rights=None):
+    return Anchor(key(n), bytes([n]), 'anchor %d' % n, rights, critical=True)
 
 
 def asks(kind, identifier, number, entries=None):
@@ -125,12 +37,6 @@ def refused(status, offset=0):
 
 
 # -- OpenSSL
-
-def signed(kind, identifier, content, **environment):
-    type = kind if '.' in kind else str(KINDS[kind])
-    run = subprocess.run(['tools/sign.sh', identifier, type, content.hex()], env={**os.environ, **environment}, capture_output=True, check=True, text=True)
-    return bytes.fromhex(run.stdout.strip())
-
 
 def places(message, depth):
     """the offsets of the elements at a depth, behind the last element one level above it"""
@@ -144,9 +50,9 @@ def openssl():
     everywhere = {'allModules': ''}
     device = {'hwModules': [('1.2.3', [b'\x07', (b'\x10', b'\x1F')]), ('1.2.4', [None])]}
     case(signed('statusQuery', '01', query(6, **everywhere)), asks('statusQuery', '01', 6))
-    case(signed('statusQuery', 'A1B2C3D4', query(2 ** 63 - 1, **device), KEY='-newkey rsa:2048'), asks('statusQuery', 'A1B2C3D4', 2 ** 63 - 1))
-    case(signed('update', '01', update(7, [('add', 3), ('add constrained', 4), ('remove', 5), ('change', 6)], [(b'\x03', 9)], **everywhere)), asks('update', '01', 7, 4))
-    case(signed('update', '02', update(8, [('remove', n) for n in range(17)], **device)), asks('update', '02', 8, 17))
+    case(signed('statusQuery', 'A1B2C3D4', query(2 ** 63 - 1, **device), KEY='-algorithm RSA'), asks('statusQuery', 'A1B2C3D4', 2 ** 63 - 1))
+    case(signed('update', '01', update(7, [('add', anchor(3)), ('add', anchor(4, RIGHTS)), ('remove', key(5)), ('change', key(6))], [(b'\x03', 9)], **everywhere)), asks('update', '01', 7, 4))
+    case(signed('update', '02', update(8, [('remove', key(n)) for n in range(17)], **device)), asks('update', '02', 8, 17))
     case(signed('communityUpdate', '0102030405060708', communities(300, ['1.2.5'], ['1.2.6', '1.2.7'], communities=['1.2.5'])), asks('communityUpdate', '0102030405060708', 300))
     case(signed('seqNumAdjust', '02', adjust(70000, **everywhere)), asks('seqNumAdjust', '02', 70000))
     # certificates sent; a second signer; no signed attributes; no subjectKeyIdentifier; content not sent; another content type
@@ -162,14 +68,6 @@ def openssl():
 
 
 # -- pyasn1
-
-def attribute(type, *values):
-    a = rfc5652.Attribute()
-    a['attrType'] = univ.ObjectIdentifier(type)
-    for i, v in enumerate(values):
-        a['attrValues'][i] = univ.Any(encode(v))
-    return a
-
 
 def wrapped(kind, identifier, content, more=(), unsigned=(), digest=True):
     s = rfc5652.SignedData()
@@ -189,10 +87,7 @@ def wrapped(kind, identifier, content, more=(), unsigned=(), digest=True):
     i['signature'] = hashlib.sha512(content).digest()
     if unsigned:
         i['unsignedAttrs'].extend(unsigned)
-    outer = rfc5652.ContentInfo()
-    outer['contentType'] = rfc5652.id_signedData
-    outer['content'] = s
-    return encode(outer)
+    return content_info(rfc5652.id_signedData, s)
 
 
 def pyasn1():
@@ -200,20 +95,16 @@ def pyasn1():
     case(wrapped('statusQuery', b'\x01', query(0, **everywhere)), asks('statusQuery', '01', 0))
     case(wrapped('statusQuery', b'\x01\x02', query(128, hwModules=[('2.999.3', [None, b'\x01\x02', (b'\x00\x00', b'\xFF\xFF')])]), [attribute('1.2.3.4', univ.Integer(5))]),
          asks('statusQuery', '0102', 128))
-    case(wrapped('statusQuery', b'', query(65536, uri=char.IA5String('http://box').subtype(implicitTag=tag.Tag(tag.tagClassContext, tag.tagFormatSimple, 4)))),
-         asks('statusQuery', '', 65536))
-    case(wrapped('update', b'\x09', update(5, [('add constrained', 1)], communities=['1.2.5', '1.2.6'])), asks('update', '09', 5, 1))
-    case(wrapped('update', b'\x09', update(6, [('change', 1), ('remove', 2), ('add', 3)], [(b'\x01', 2), (b'\x02', 3)], **everywhere)), asks('update', '09', 6, 3))
+    case(wrapped('statusQuery', b'', query(65536, uri='http://box')), asks('statusQuery', '', 65536))
+    case(wrapped('update', b'\x09', update(5, [('add', anchor(1, RIGHTS))], communities=['1.2.5', '1.2.6'])), asks('update', '09', 5, 1))
+    case(wrapped('update', b'\x09', update(6, [('change', key(1)), ('remove', key(2)), ('add', anchor(3))], [(b'\x01', 2), (b'\x02', 3)], **everywhere)), asks('update', '09', 6, 3))
     case(wrapped('communityUpdate', b'\x09', communities(7, add=['1.2.5'], **everywhere)), asks('communityUpdate', '09', 7))
     case(wrapped('communityUpdate', b'\x09', communities(8, remove=['1.2.5', '1.2.6'], **everywhere)), asks('communityUpdate', '09', 8))
     case(wrapped('seqNumAdjust', b'\x09', adjust(9, **everywhere)), asks('seqNumAdjust', '09', 9))
     # verbose; another version; not signed; unsigned attributes; two values; no digest; a type twice; another message's syntax
     case(wrapped('statusQuery', b'\x01', query(1, terse='verbose', **everywhere)), refused(127))
     case(wrapped('statusQuery', b'\x01', query(1, version='v1', **everywhere)), refused(31))
-    outer = rfc5652.ContentInfo()
-    outer['contentType'] = KINDS['statusQuery']
-    outer['content'] = univ.Any(query(1, **everywhere))
-    case(encode(outer), refused(29))
+    case(content_info(KINDS['statusQuery'], univ.Any(query(1, **everywhere))), refused(29))
     note = attribute('1.2.3.5', univ.OctetString(b'unsigned'))
     message = wrapped('statusQuery', b'\x01', query(1, **everywhere), unsigned=[note])
     case(message, refused(8, message.index(encode(note)) - 2))

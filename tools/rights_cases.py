@@ -1,4 +1,4 @@
-#!/usr/bin/python3
+#!/usr/bin/python3 -B
 """Input and expected output of the program rights_cases.
 
     tools/rights_cases.py                  writes crates/rights_cases/stdin and stdout: P1 to P10 of document 01, on TrustAnchorInfo
@@ -38,37 +38,19 @@ def authorises_case(apex, carrier, anchor, content_type, pairs):
 def paper():
     from pyasn1.codec.der.encoder import encode
     from pyasn1.type import univ
-    from pyasn1_modules import rfc5280, rfc5914, rfc6010
+    from pyasn1_modules import rfc6010
+    from outside_tools import Anchor, anchor_info, ed25519, right
 
-    def anchor(key, entries):
-        info = rfc5914.TrustAnchorInfo()
-        info['pubKey']['algorithm']['algorithm'] = univ.ObjectIdentifier('1.3.101.112')
-        info['pubKey']['subjectPublicKey'] = univ.BitString(hexValue='%02X' % key)
-        info['keyId'] = bytes([key])
-        if entries is not None:
-            constraints = rfc6010.CMSContentConstraints()
-            for oid, can_source, limits in entries:
-                entry = rfc6010.ContentTypeConstraint()
-                entry['contentType'] = univ.ObjectIdentifier(oid)
-                if not can_source:
-                    entry['canSource'] = 'cannotSource'
-                for attribute, values in limits:
-                    constraint = rfc6010.AttrConstraint()
-                    constraint['attrType'] = univ.ObjectIdentifier(attribute)
-                    for value in values:
-                        constraint['attrValues'].append(encode(univ.Integer(value)))
-                    entry['attrConstraints'].append(constraint)
-                constraints.append(entry)
-            extension = rfc5280.Extension()
-            extension['extnID'] = rfc6010.id_pe_cmsContentConstraints
-            extension['extnValue'] = encode(constraints)
-            info['exts'].append(extension)
-        return encode(info)
+    def anchor(n, rights):
+        return anchor_info(Anchor(ed25519(bytes([n])), bytes([n]), rights=rights))
+
+    def limited(*values):
+        return right(t, limits=[(a, [encode(univ.Integer(v)) for v in values])])
 
     t, a = '1.2.100.1', '1.2.200.1'
     anything = str(rfc6010.id_ct_anyContentType)
-    free, only_1, one_two, one_three = (t, True, []), (t, True, [(a, [1])]), (t, True, [(a, [1, 2])]), (t, True, [(a, [1, 3])])
-    carrier, every = (t, False, []), (anything, True, [])
+    free, only_1, one_two, one_three = right(t), limited(1), limited(1, 2), limited(1, 3)
+    carrier, every = right(t, source=False), right(anything)
     cases = [
         ([free], [free], True),
         ([carrier], [free], False),

@@ -1,0 +1,7 @@
+#!/bin/sh
+# Prints a certificate with a given subjectKeyIdentifier, made by OpenSSL: tools/certificate.sh KEY-FILE KEY-IDENTIFIER-HEX.
+# The key is made where there is no such file; KEY holds the options of openssl genpkey for it (P-256). Issuer and serial number are always the same, so that
+# openssl cms finds the signer in a certificate made anew.
+set -eu
+[ -e "$1" ] || openssl genpkey ${KEY--algorithm EC -pkeyopt ec_paramgen_curve:prime256v1} -out "$1" 2> /dev/null
+openssl req -x509 -new -key "$1" -subj /CN=signer -set_serial 1 -addext "subjectKeyIdentifier = $2" -days 1
