@@ -1,5 +1,6 @@
 #!/usr/bin/env python3
-"""Writes the benchmark's cases below a folder: stores of 3 and of 32 anchors; a Query, an Update with one and with sixteen adds, signed by OpenSSL."""
+"""Writes the benchmark's cases below a folder, messages signed by OpenSSL: a Query, an Update with one and with sixteen adds, on stores of 3 and of 32 anchors and of 32 anchors of about 1,000 octets;
+and the messages of nearly 8,192 octets that cost the most: one add with as many content types as fit in (over the limit: 17), a Community Update of as many communities (17)."""
 import os
 import subprocess
 import sys
@@ -13,13 +14,22 @@ def element(tag, contents):
     return bytes([tag]) + size + contents
 
 
+def oid(n):
+    """1.2.n, with as few octets as n takes"""
+    octets = [n % 128]
+    while n >= 128:
+        n //= 128
+        octets.insert(0, 128 + n % 128)
+    return b'\x2A' + bytes(octets)
+
+
 TYPES = [bytes([0x60, 0x86, 0x48, 0x01, 0x65, 0x02, 0x01, 0x02, 0x4D, n]) for n in (1, 3, 7, 10)]
 
 
-def anchor(key, rights):
-    """A TrustAnchorInfo with a P-256 sized key; rights: a list of content types."""
+def anchor(key, rights, key_octets=64):
+    """A TrustAnchorInfo, by default with a P-256 sized key; rights: a list of content types."""
     algorithm = element(0x30, element(0x06, bytes.fromhex('2A8648CE3D0201')) + element(0x06, bytes.fromhex('2A8648CE3D030107')))
-    public = element(0x30, algorithm + element(0x03, b'\0\x04' + bytes([key]) * 64))
+    public = element(0x30, algorithm + element(0x03, b'\0\x04' + bytes([key]) * key_octets))
     info = public + element(0x04, bytes([key]) * 20)
     if rights:
         value = element(0x30, b''.join(element(0x30, element(0x06, t)) for t in rights))
@@ -28,8 +38,8 @@ def anchor(key, rights):
     return element(0x30, info)
 
 
-def image(count):
-    anchors = [anchor(1, [])] + [anchor(k, TYPES) for k in range(2, count + 1)]
+def image(count, rights=TYPES, key_octets=64):
+    anchors = [anchor(1, [])] + [anchor(k, rights, key_octets) for k in range(2, count + 1)]
     records = b''.join(b'\0' * 9 + len(a).to_bytes(2, 'big') + a for a in anchors)
     return b'\x01\x02\x2A\x03\x01\x07' + bytes([count]) + records + b'\0'
 
@@ -39,22 +49,33 @@ def sign(number, content):
     return bytes.fromhex(subprocess.run(run, stdout=subprocess.PIPE, check=True).stdout.decode())
 
 
+HEAD = bytes.fromhex('810101') + bytes.fromhex('30058300020106')  # terse, and msgRef
+
+
+def update(adds):
+    return sign(3, element(0x30, HEAD + element(0x30, b''.join(element(0xA1, element(0xA2, a)) for a in adds))))
+
+
+def communities(count):
+    return sign(7, element(0x30, HEAD + element(0x30, element(0xA2, b''.join(element(0x06, oid(n)) for n in range(count))))))
+
+
+def write(folder, name, message, store):
+    case = os.path.join(folder, name)
+    os.makedirs(case, exist_ok=True)
+    for part, octets in (('message', message), ('image', store), ('verdict', b'\x01' * 32)):
+        open(os.path.join(case, part), 'wb').write(octets[:store[6]] if part == 'verdict' else octets)
+
+
 def main():
     folder = sys.argv[1]
-    ref = bytes.fromhex('30058300020106')
-    terse = bytes.fromhex('810101')
-
-    def update(n):
-        adds = b''.join(element(0xA1, element(0xA2, anchor(100 + k, TYPES))) for k in range(n))
-        return sign(3, element(0x30, terse + ref + element(0x30, adds)))
-
-    messages = {'query': sign(1, element(0x30, terse + ref)), 'update-1': update(1), 'update-16': update(16)}
+    messages = {'query': sign(1, element(0x30, HEAD)), 'update-1': update([anchor(100, TYPES)]), 'update-16': update([anchor(100 + k, TYPES) for k in range(16)])}
     for count in (3, 32):
         for name, message in messages.items():
-            case = os.path.join(folder, '%s-%d-anchors' % (name, count))
-            os.makedirs(case, exist_ok=True)
-            for part, octets in (('message', message), ('image', image(count)), ('verdict', b'\x01' * count)):
-                open(os.path.join(case, part), 'wb').write(octets)
+            write(folder, '%s-%d-anchors' % (name, count), message, image(count))
+    write(folder, 'query-32-long-anchors', messages['query'], image(32, [oid(n) for n in range(16)], 780))
+    write(folder, 'wide-add-3-anchors', update([anchor(100, [oid(n) for n in range(950)])]), image(3))
+    write(folder, 'wide-communities-3-anchors', communities(1550), image(3))
 
 
 main()

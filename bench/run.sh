@@ -5,7 +5,7 @@ cd "$(dirname "$0")/.."
 rt staticlib tamp
 dir=$(mktemp -d)
 trap 'rm -rf "$dir"' EXIT
-gcc -O2 bench/bench.c target/staticlib/libtamp.a -lcrypto -o "$dir/bench"
+gcc -O2 bench/bench.c target/staticlib/libtamp.a -lcrypto -lpthread -o "$dir/bench"
 python3 bench/cases.py "$dir/cases"
 for case in "$dir"/cases/*; do
     "$dir/bench" "$(basename "$case")" "$case"
