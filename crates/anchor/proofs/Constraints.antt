@@ -67,9 +67,8 @@ some-members n =
     (λ t. let z = eqb-true n 0 t in rw t (sym (le-ltb 0 n (omega arith))))
     (λ t. let z : n ≡ 0 → ⊥ = eqb-false n 0 t in rw t (sym (lt-ltb 0 n (omega arith))))
 
-module _ (v : List ℕ) (e : Element) {k : List ℕ} {b : Bool} (hk : k ≡ keyOf Types v e) (hb : b ≡ same k anyContentType) where
+module _ (v : List ℕ) (e : Element) {k : List ℕ} {b : Bool} (hk : k ≡ contents v (field 0x06 v e)) (hb : b ≡ same k anyContentType) where
   unlike-test : b ≡ same (contents v (field 0x06 v e)) anyContentType
-  unfolding keyOf
   unlike-test = hb ∙ ap (λ (x : List ℕ). same x anyContentType) hk
 
   pub unlike-other : b ≡ false → isUnlike (contentTypeConstraint v e) ≡ false

@@ -1,27 +1,45 @@
 -- The checks of an add: each test of the definition as the code has it.
-use Prim.Native.Nat.{ℕ, zero, suc, _≤_, _<_}
+use Prim.Native.Nat.{ℕ, _≤_, _<_}
 use native.Mathlib.Omega.{arith}
-use mathlib.Core.Bool.{Bool, true, false, not, false≢true}
-use mathlib.Core.List.{List, [], _∷_}
-use mathlib.Core.Path.{_≡_, refl, sym, ap, _∙_}
-use lib.ListN.{length, getD, drop}
+use mathlib.Core.Bool.{Bool, true, false, not, _&&_}
+use mathlib.Core.List.{List, [], _∷_, map}
+use mathlib.Core.Path.{_≡_, refl, sym, ap, ap₂, _∙_}
+use lib.ListN.{length, drop}
 use lib.Dec.{leb, ltb, eqb}
 use borrow.Author.Tests.{ltb-true, ltb-false, le-leb, lt-leb}
 use Rattle.octets.specs.declared.Status.{Status}
 use Rattle.octets.specs.Status.{success}
 use Rattle.octets.specs.Limits.{maxAnchorOctets, maxKeyIdentifier, maxDepth}
 use Rattle.octets.specs.First.{givenIf}
+use Rattle.octets.specs.Lists.{anyOf}
+use Rattle.octets.specs.Octets.{distinct}
 use Rattle.octets.proofs.Lists.{by-test}
+use Rattle.der.specs.declared.Element.{Element}
 use Rattle.der.specs.declared.Fit.{Fit}
+use Rattle.der.specs.Element.{root, contents, inside, field, fieldBehind}
 use Rattle.der.specs.Fit.{andThen, kept}
 use Rattle.der.specs.Check.{spans}
 use Rattle.syntax.specs.Grammar.{Syntax, fit}
 use Rattle.syntax.specs.Asn.{StoredTrustAnchorInfo, CMSContentConstraints}
+use Rattle.rights.specs.Rights.{Rights}
 use Rattle.rights.specs.Constraints.{constraintsRights}
 use Rattle.anchor.specs.declared.Judged.{Judged}
 use Rattle.anchor.specs.declared.Judged.the-variants as judged
 use Rattle.anchor.specs.declared.Faults.{Faults}
-use Rattle.anchor.specs.Info.{version, keyIdentifier, certPath, hasConstraints, constraintsValue, rightsOf}
+use Rattle.anchor.specs.declared.Compared.the-variants.{Types}
+use Rattle.anchor.specs.Info.{
+  version,
+  keyIdField,
+  keyIdentifier,
+  certPath,
+  extensions,
+  extnValue,
+  constraintsIn,
+  constraintsExtension,
+  constraintsValue,
+  rightsOf,
+}
+use Rattle.anchor.specs.Role.{extensionList}
 use Rattle.anchor.specs.Judge.{
   statusOf,
   conforms,
@@ -35,10 +53,11 @@ use Rattle.anchor.specs.Judge.{
   overAttributes,
   overValues,
   overValueOctets,
+  judgeRights,
   judge,
   storable,
 }
-use Rattle.anchor.specs.Faults.{rightsFaults}
+use Rattle.anchor.specs.Faults.{keyOf, isOtherCritical, rightsFaults}
 use Rattle.anchor.proofs.Constraints.{repeated-fault, unlike-fault, entries-fault, attributes-fault, values-fault, octets-fault}
 use Rattle.anchor.proofs.Rights.{value-rights}
 
@@ -48,33 +67,24 @@ not-leb a b =
     (λ t. let u = ltb-true b a t in rw (lt-leb a b u) (sym t))
     (λ t. let u = ltb-false b a t in rw (le-leb a b u) (sym t))
 
-module _ (t : List ℕ) {k : List ℕ} (q : k ≡ keyIdentifier t) where
-  pub identifier-none : length k ≡ 0 → identifierOutside t ≡ true
+module _ (k : List ℕ) where
+  pub identifier-none : length k ≡ 0 → identifierOutside k ≡ true
   unfolding identifierOutside
   identifier-none z =
-      let n : length (keyIdentifier t) < 1 = omega (arith, ap length q) in
+      let n : length k < 1 = omega arith in
       rw (lt-leb 1 _ n)
 
-  pub identifier-some : (length k ≡ 0 → ⊥) → ltb maxKeyIdentifier (length k) ≡ identifierOutside t
+  pub identifier-some : (length k ≡ 0 → ⊥) → ltb maxKeyIdentifier (length k) ≡ identifierOutside k
   unfolding identifierOutside
   identifier-some z =
       let n : 1 ≤ length k = omega arith in
-      rw (sym q, le-leb 1 _ n) (sym (not-leb (length k) maxKeyIdentifier))
+      rw (le-leb 1 _ n) (sym (not-leb (length k) maxKeyIdentifier))
 
 -- DER and a syntax
 module _ (g : Syntax) (t : List ℕ) {a b : Fit} (p : a ≡ spans maxDepth t 0 (length t) 0) (q : b ≡ fit g t 0 (length t) 0) where
   pub conforms-is : kept (andThen a b) ≡ conforms g t
   unfolding conforms
   conforms-is = rw (p, q)
-
-pub bad-constraints : (t : List ℕ) {a b : Bool} {v : List ℕ} → a ≡ hasConstraints t → a ≡ true → v ≡ constraintsValue t → b ≡ conforms CMSContentConstraints v
-    → not b ≡ badConstraints t
-unfolding badConstraints
-bad-constraints t p h q r = rw (sym p ∙ h, r, q)
-
-pub no-constraints : (t : List ℕ) {a : Bool} → a ≡ hasConstraints t → a ≡ false → badConstraints t ≡ false
-unfolding badConstraints
-no-constraints t p h = rw (sym p ∙ h)
 
 pub storable-is : (t : List ℕ) {a : Bool} {j : Judged} {n : Status} → a ≡ conforms StoredTrustAnchorInfo t → a ≡ true → j ≡ judge t → n ≡ statusOf j
     → eqb (n .number) (success .number) ≡ storable t
@@ -85,86 +95,126 @@ pub storable-not : (t : List ℕ) {a : Bool} → a ≡ conforms StoredTrustAncho
 unfolding storable
 storable-not t p h = rw (sym p ∙ h)
 
--- what the faults of the constraints value say of the rights
+-- the parts of a TrustAnchorInfo, each found in the one before it
 
-pub all-faults : (t : List ℕ) {v : List ℕ} {f : Faults} → v ≡ constraintsValue t → f ≡ rightsFaults (constraintsRights v) → f ≡ rightsFaults (rightsOf t)
-all-faults t q h = h ∙ ap (λ (x : List ℕ). rightsFaults (constraintsRights x)) q ∙ ap rightsFaults (value-rights t)
+module _ (t : List ℕ) {info : Element} (i : info ≡ root t) where
+  pub version-is : {e : Element} → e ≡ field 0x02 t info → version t .good ≡ e .good
+  unfolding version
+  version-is q = rw (q, i)
 
-module _ (t : List ℕ) {f : Faults} (h : f ≡ rightsFaults (rightsOf t)) where
-  pub repeated-is : repeatedConstraint (rightsOf t) ≡ f .repeated
-  repeated-is = rw h (sym (repeated-fault (rightsOf t)))
+  pub identifier-is : {id : Element} {k : List ℕ} → id ≡ field 0x04 t info → k ≡ contents t id → k ≡ keyIdentifier t
+  unfolding keyIdField
+  identifier-is q r = rw (r, q, i)
 
-  pub unlike-is : anyContentTypeUnlike (rightsOf t) ≡ f .unlike
-  unlike-is = rw h (sym (unlike-fault (rightsOf t)))
+  pub path-is : {id e : Element} → id ≡ field 0x04 t info → e ≡ fieldBehind 0x30 t info id → certPath t .good ≡ e .good
+  unfolding certPath keyIdField
+  path-is q r = rw (r, q, i)
 
-  pub entries-is : overEntries (rightsOf t) ≡ f .entries
-  entries-is = rw h (sym (entries-fault (rightsOf t)))
+  pub list-is : {x list : Element} → x ≡ field 0xA1 t info → list ≡ field 0x30 t x → list ≡ extensionList t
+  list-is q r = rw (r, q, i)
 
-  pub attributes-is : overAttributes (rightsOf t) ≡ f .attributes
-  attributes-is = rw h (sym (attributes-fault (rightsOf t)))
+module _ (t : List ℕ) {list : Element} (l : list ≡ extensionList t) where
+  pub repeated-extension-is : {d : Bool} → d ≡ distinct (map (keyOf Types t) (inside t list)) → repeatedExtension t ≡ not d
+  unfolding repeatedExtension extensions keyOf
+  repeated-extension-is q = rw (q, l)
 
-  pub values-is : overValues (rightsOf t) ≡ f .values
-  values-is = rw h (sym (values-fault (rightsOf t)))
+  pub critical-extension-is : {b : Bool} → b ≡ anyOf (isOtherCritical t) (inside t list) → criticalExtension t ≡ b
+  unfolding criticalExtension extensions
+  critical-extension-is q = rw (q, l)
 
-  pub octets-is : overValueOctets (rightsOf t) ≡ f .octets
-  octets-is = rw h (sym (octets-fault (rightsOf t)))
+  pub constraints-is : {e : Element} → e ≡ constraintsIn t (inside t list) → e ≡ constraintsExtension t
+  unfolding constraintsExtension extensions
+  constraints-is q = rw (q, l)
 
--- "The first that applies is given": the stages of `judge` in their order, and what it gives from a stage on
+module _ (t : List ℕ) {e : Element} (p : e ≡ constraintsExtension t) {v : List ℕ} (q : v ≡ extnValue t e) where
+  pub value-is : v ≡ constraintsValue t
+  value-is = rw (q, p)
 
-abbrev pub stages : List ℕ → List (Bool × Judged)
+  pub bad-constraints-is : {b : Bool} → b ≡ (e .good && not (conforms CMSContentConstraints v)) → badConstraints t ≡ b
+  unfolding badConstraints
+  bad-constraints-is r = rw (r, q, p)
+
+pub rights-is : (t : List ℕ) {k v : List ℕ} {j : Judged} → k ≡ keyIdentifier t → v ≡ constraintsValue t → j ≡ judgeRights t k (constraintsRights v)
+    → j ≡ judgeRights t (keyIdentifier t) (rightsOf t)
+rights-is t p q h = h ∙ ap₂ (judgeRights t) p (ap constraintsRights q ∙ value-rights t)
+
+-- what the faults of the rights say of them
+
+module _ (r : Rights) {f : Faults} (h : f ≡ rightsFaults r) where
+  pub repeated-is : repeatedConstraint r ≡ f .repeated
+  repeated-is = rw h (sym (repeated-fault r))
+
+  pub unlike-is : anyContentTypeUnlike r ≡ f .unlike
+  unlike-is = rw h (sym (unlike-fault r))
+
+  pub entries-is : overEntries r ≡ f .entries
+  entries-is = rw h (sym (entries-fault r))
+
+  pub attributes-is : overAttributes r ≡ f .attributes
+  attributes-is = rw h (sym (attributes-fault r))
+
+  pub values-is : overValues r ≡ f .values
+  values-is = rw h (sym (values-fault r))
+
+  pub octets-is : overValueOctets r ≡ f .octets
+  octets-is = rw h (sym (octets-fault r))
+
+-- "The first that applies is given": stages in their order and what is given behind them
+
+abbrev stages : List ℕ → List (Bool × Judged)
 stages t =
-    let r = rightsOf t in
     (version t .good, judged.OtherVersion)
     ∷ (certPath t .good, judged.CertPath)
     ∷ (repeatedExtension t, judged.RepeatedExtension)
     ∷ (criticalExtension t, judged.CriticalExtension)
     ∷ (badConstraints t, judged.ConstraintsSyntax)
-    ∷ (repeatedConstraint r, judged.RepeatedConstraint)
+    ∷ []
+
+abbrev rightsStages : List ℕ → List ℕ → Rights → List (Bool × Judged)
+rightsStages t k r =
+    (repeatedConstraint r, judged.RepeatedConstraint)
     ∷ (anyContentTypeUnlike r, judged.AnyContentTypeEntry)
     ∷ (ltb maxAnchorOctets (length t), judged.AnchorOctets)
-    ∷ (identifierOutside t, judged.KeyIdentifierOctets)
+    ∷ (identifierOutside k, judged.KeyIdentifierOctets)
     ∷ (overEntries r, judged.EntryCount)
     ∷ (overAttributes r, judged.AttributeCount)
     ∷ (overValues r, judged.ValueCount)
     ∷ (overValueOctets r, judged.ValueOctets)
     ∷ []
 
-unfoldable pub firstOf : List (Bool × Judged) → Judged
-firstOf [] = judged.Passes
-firstOf (s ∷ l) = givenIf (s .0) (s .1) (firstOf l)
+unfoldable pub firstOf : List (Bool × Judged) → Judged → Judged
+firstOf [] last = last
+firstOf (s ∷ l) last = givenIf (s .0) (s .1) (firstOf l last)
 
-abbrev none : Bool × Judged
-none = (false, judged.Passes)
+-- an answer is what stages give
+pub record From (j : Judged) (l : List (Bool × Judged)) (last : Judged) : Type 0 where
+  pub is : j ≡ firstOf l last
 
-first-not : (l : List (Bool × Judged)) (k : ℕ) → getD l k none .0 ≡ false → firstOf (drop k l) ≡ firstOf (drop (suc k) l)
-unfolding firstOf givenIf
-first-not [] zero h = refl
-first-not [] (suc k) h = refl
-first-not (s ∷ l) zero h = rw h
-first-not (s ∷ l) (suc k) h = first-not l k h
+module _ {j answer last : Judged} {b : Bool} {l : List (Bool × Judged)} (p : From j ((b, answer) ∷ l) last) where
+  pub passed : b ≡ false → From j l last
+  unfolding firstOf givenIf
+  passed h = record { is = p .is ∙ rw h }
 
-first-is : (l : List (Bool × Judged)) (k : ℕ) → getD l k none .0 ≡ true → firstOf (drop k l) ≡ getD l k none .1
-unfolding firstOf givenIf
-first-is [] zero h = absurd (false≢true h)
-first-is [] (suc k) h = absurd (false≢true h)
-first-is (s ∷ l) zero h = rw h
-first-is (s ∷ l) (suc k) h = first-is l k h
+  pub given : b ≡ true → answer ≡ j
+  unfolding firstOf givenIf
+  given h = sym (p .is ∙ rw h)
 
--- the tests of the first k stages do not apply
-pub record Past (k : ℕ) (t : List ℕ) : Type 0 where
-  pub is : judge t ≡ firstOf (drop k (stages t))
+pub given-last : {j last : Judged} → From j [] last → last ≡ j
+unfolding firstOf
+given-last p = sym (p .is)
+
+-- the first n stages do not apply
+
+abbrev pub Past : ℕ → List ℕ → Type 0
+Past n t = From (judge t) (drop n (stages t)) (judgeRights t (keyIdentifier t) (rightsOf t))
 
 pub start : (t : List ℕ) → Past 0 t
 unfolding judge firstOf
 start t = record { is = refl }
 
-module _ (k : ℕ) {t : List ℕ} (p : Past k t) where
-  pub passed : getD (stages t) k none .0 ≡ false → Past (suc k) t
-  passed h = record { is = p .is ∙ first-not (stages t) k h }
+abbrev pub RightsPast : ℕ → List ℕ → List ℕ → Rights → Type 0
+RightsPast n t k r = From (judgeRights t k r) (drop n (rightsStages t k r)) judged.Passes
 
-  pub given : getD (stages t) k none .0 ≡ true → getD (stages t) k none .1 ≡ judge t
-  given h = sym (p .is ∙ first-is (stages t) k h)
-
-pub given-last : {t : List ℕ} → Past 13 t → judged.Passes ≡ judge t
+pub rights-start : (t k : List ℕ) (r : Rights) → RightsPast 0 t k r
 unfolding firstOf
-given-last p = sym (p .is)
+rights-start t k r = record { is = refl }

@@ -73,7 +73,7 @@ anyContentTypeUnlike r = anyOf (λ e. same (e .0) anyContentType && not (e .1 .c
 
 -- 17, "over 1,024 octets, identifier outside 1 to 32, a count or value over the limits of Rights"
 unfoldable pub identifierOutside : List ℕ → Bool
-identifierOutside t = not (leb 1 (length (keyIdentifier t)) && leb (length (keyIdentifier t)) maxKeyIdentifier)
+identifierOutside k = not (leb 1 (length k) && leb (length k) maxKeyIdentifier)
 
 unfoldable pub overEntries : Rights → Bool
 overEntries r = ltb maxEntries (length r)
@@ -87,23 +87,26 @@ overValues r = anyOf (λ e. anyOf (λ a. ltb maxValues (length (a .1))) (e .1 .c
 unfoldable pub overValueOctets : Rights → Bool
 overValueOctets r = anyOf (λ e. anyOf (λ a. anyOf (λ v. ltb maxValueOctets (length v)) (a .1)) (e .1 .constraints)) r
 
+-- The checks behind those of syntax: of a TrustAnchorInfo's rights r, and of its size and that of its key identifier k.
+abbrev pub judgeRights : List ℕ → List ℕ → Rights → Judged
+judgeRights t k r =
+    givenIf (repeatedConstraint r) judged.RepeatedConstraint
+    (givenIf (anyContentTypeUnlike r) judged.AnyContentTypeEntry
+    (givenIf (ltb maxAnchorOctets (length t)) judged.AnchorOctets
+    (givenIf (identifierOutside k) judged.KeyIdentifierOctets
+    (givenIf (overEntries r) judged.EntryCount
+    (givenIf (overAttributes r) judged.AttributeCount
+    (givenIf (overValues r) judged.ValueCount
+    (givenIf (overValueOctets r) judged.ValueOctets judged.Passes)))))))
+
 -- The checks of a TrustAnchorInfo, in the order of 01. (The certificate forms are told by the TrustAnchorChoice around it.)
 unfoldable pub judge : List ℕ → Judged
 judge t =
-    let r = rightsOf t in
     givenIf (version t .good) judged.OtherVersion
     (givenIf (certPath t .good) judged.CertPath
     (givenIf (repeatedExtension t) judged.RepeatedExtension
     (givenIf (criticalExtension t) judged.CriticalExtension
-    (givenIf (badConstraints t) judged.ConstraintsSyntax
-    (givenIf (repeatedConstraint r) judged.RepeatedConstraint
-    (givenIf (anyContentTypeUnlike r) judged.AnyContentTypeEntry
-    (givenIf (ltb maxAnchorOctets (length t)) judged.AnchorOctets
-    (givenIf (identifierOutside t) judged.KeyIdentifierOctets
-    (givenIf (overEntries r) judged.EntryCount
-    (givenIf (overAttributes r) judged.AttributeCount
-    (givenIf (overValues r) judged.ValueCount
-    (givenIf (overValueOctets r) judged.ValueOctets judged.Passes))))))))))))
+    (givenIf (badConstraints t) judged.ConstraintsSyntax (judgeRights t (keyIdentifier t) (rightsOf t))))))
 
 -- 01, The store image: "A stored TrustAnchorInfo is DER of RFC 5914's syntax, depth counted from itself, and passes every check of an add up to status 17 for size."
 unfoldable pub storable : List ℕ → Bool

@@ -2,13 +2,15 @@
 // Everything takes the octets of a TrustAnchorInfo by itself, a part of an image or of a message.
 use der::Element;
 use der::Fit;
+ghost use mathlib.Core.Bool.{not, _&&_};
 ghost use mathlib.Core.Path.{_≡_};
 ghost use mathlib.Core.List.{map};
 ghost use lib.ListN.{length};
 ghost use lib.Dec.{ltb};
 ghost use Rattle.octets.specs.Lists.{anyOf};
 ghost use Rattle.octets.specs.Octets.{distinct};
-ghost use Rattle.der.specs.Element.{root as rootOf, inside, elements};
+ghost use Rattle.der.specs.Element.{elements, contents, root as rootOf, inside, field};
+ghost use Rattle.syntax.specs.Asn.{CMSContentConstraints};
 ghost use Rattle.syntax.specs.Forms.{formSyntax};
 ghost use Rattle.rights.specs.Constraints.{attrConstraint, contentTypeConstraint, constraintsRights};
 ghost use Rattle.anchor.specs.Info.{
@@ -18,7 +20,9 @@ ghost use Rattle.anchor.specs.Info.{
   keyIdentifier,
   title as titleOf,
   certPath,
+  extnValue,
   isConstraints,
+  constraintsIn,
   constraintsExtension,
   hasConstraints,
   constraintsValue,
@@ -27,10 +31,8 @@ ghost use Rattle.anchor.specs.Role.{extensionList, roleOf};
 ghost use Rattle.anchor.specs.Judge.{
   statusOf,
   conforms as conformsOf,
-  repeatedExtension,
-  criticalExtension,
-  badConstraints,
   identifierOutside,
+  judgeRights,
   judge as judgeOf,
   storable,
 };
@@ -187,12 +189,19 @@ fn next(e: Element, stop: usize) -> usize
     stop
 }
 
+// The type in an element: the contents of its OID.
+fn type_of(s: &[u8], e: Element) -> &[u8]
+    ensures { λ r. ⌜ now r ≡ contents (now (s .entry)) (field 0x06 (now (s .entry)) e) ⌝ }
+{
+    der::contents(s, der::field(s, e, 0x06))
+}
+
 // What a member of a run is compared by.
 fn key(s: &[u8], e: Element, by: Compared) -> &[u8]
     ensures { λ r. ⌜ now r ≡ keyOf by (now (s .entry)) e ⌝ }
 {
     match by {
-        Compared::Types => der::contents(s, der::field(s, e, 0x06)),
+        Compared::Types => type_of(s, e),
         Compared::Octets => der::whole(s, e),
     }
 }
@@ -265,14 +274,13 @@ fn has_long(s: &[u8], outer: Element) -> bool
 fn is_constraints(t: &[u8], e: Element) -> bool
     ensures { λ r. ⌜ r ≡ isConstraints (now (t .entry)) e ⌝ }
 {
-    octets::equal(key(t, e, Compared::Types), &ID_PE_CMS_CONTENT_CONSTRAINTS)
+    octets::equal(type_of(t, e), &ID_PE_CMS_CONTENT_CONSTRAINTS)
 }
 
-// The content constraints extension.
-pub fn constraints_extension(t: &[u8]) -> Element
-    ensures { λ r. ⌜ r ≡ constraintsExtension (now (t .entry)) ⌝ }
+// The first content constraints extension in a list.
+fn constraints_in(t: &[u8], list: Element) -> Element
+    ensures { λ r. ⌜ r ≡ constraintsIn (now (t .entry)) (inside (now (t .entry)) list) ⌝ }
 {
-    let list = extension_list(t);
     let stop = list.stop;
     let mut i = list.start;
     while i < stop {
@@ -289,6 +297,13 @@ pub fn constraints_extension(t: &[u8]) -> Element
         start: 0,
         stop: 0,
     }
+}
+
+// The content constraints extension.
+pub fn constraints_extension(t: &[u8]) -> Element
+    ensures { λ r. ⌜ r ≡ constraintsExtension (now (t .entry)) ⌝ }
+{
+    constraints_in(t, extension_list(t))
 }
 
 pub fn has_constraints(t: &[u8]) -> bool
@@ -311,11 +326,17 @@ pub fn role(position: usize, t: &[u8]) -> AnchorRole
     AnchorRole::Identity
 }
 
+fn extn_value(t: &[u8], e: Element) -> &[u8]
+    ensures { λ r. ⌜ now r ≡ extnValue (now (t .entry)) e ⌝ }
+{
+    der::contents(t, der::field(t, e, 0x04))
+}
+
 // CMSContentConstraints as octets by itself, none where there is no extension. It stands for the anchor's rights (proofs/Rights, value-rights).
 pub fn constraints_value(t: &[u8]) -> &[u8]
     ensures { λ r. ⌜ now r ≡ constraintsValue (now (t .entry)) ⌝ }
 {
-    der::contents(t, der::field(t, constraints_extension(t), 0x04))
+    extn_value(t, constraints_extension(t))
 }
 
 fn is_other_critical(t: &[u8], e: Element) -> bool
@@ -328,11 +349,10 @@ fn is_other_critical(t: &[u8], e: Element) -> bool
     false
 }
 
-// 34: a critical extension but content constraints.
-fn critical_extension(t: &[u8]) -> bool
-    ensures { λ r. ⌜ r ≡ criticalExtension (now (t .entry)) ⌝ }
+// 34: an extension in the list is critical, and not content constraints.
+fn has_other_critical(t: &[u8], list: Element) -> bool
+    ensures { λ r. ⌜ r ≡ anyOf (isOtherCritical (now (t .entry))) (inside (now (t .entry)) list) ⌝ }
 {
-    let list = extension_list(t);
     let stop = list.stop;
     let mut i = list.start;
     while i < stop {
@@ -343,13 +363,6 @@ fn critical_extension(t: &[u8]) -> bool
         i = next(e, stop);
     }
     false
-}
-
-// 34: a repeated extension.
-fn repeated_extension(t: &[u8]) -> bool
-    ensures { λ r. ⌜ r ≡ repeatedExtension (now (t .entry)) ⌝ }
-{
-    !is_distinct(t, extension_list(t), Compared::Types)
 }
 
 // The faults of two parts together.
@@ -413,7 +426,7 @@ fn attributes_faults(v: &[u8], list: Element) -> Faults
 fn is_unlike(v: &[u8], e: Element) -> bool
     ensures { λ r. ⌜ r ≡ isUnlike (contentTypeConstraint (now (v .entry)) e) ⌝ }
 {
-    if !octets::equal(key(v, e, Compared::Types), &ANY_CONTENT_TYPE) {
+    if !octets::equal(type_of(v, e), &ANY_CONTENT_TYPE) {
         return false;
     }
     let generation = der::field(v, e, 0x0A);
@@ -471,14 +484,13 @@ fn rights_faults(v: &[u8]) -> Faults
 }
 
 // 17: an identifier outside 1 to 32 octets.
-fn identifier_outside(t: &[u8]) -> bool
-    ensures { λ r. ⌜ r ≡ identifierOutside (now (t .entry)) ⌝ }
+fn identifier_outside(k: &[u8]) -> bool
+    ensures { λ r. ⌜ r ≡ identifierOutside (now (k .entry)) ⌝ }
 {
-    let n = key_identifier(t).len();
-    if n == 0 {
+    if k.len() == 0 {
         return true;
     }
-    MAX_KEY_IDENTIFIER < n
+    MAX_KEY_IDENTIFIER < k.len()
 }
 
 // Octets by themselves are DER, depth counted from their element, and of a syntax.
@@ -495,38 +507,50 @@ pub fn conforms(form: syntax::Form, t: &[u8]) -> bool
     true
 }
 
-// 34: bad constraints syntax.
-fn bad_constraints(t: &[u8]) -> bool
-    ensures { λ r. ⌜ r ≡ badConstraints (now (t .entry)) ⌝ }
+// 34: bad constraints syntax, of an extension that is present.
+fn bad_constraints(present: bool, value: &[u8]) -> bool
+    ensures { λ r. ⌜ r ≡ present && not (conformsOf CMSContentConstraints (now (value .entry))) ⌝ }
 {
-    if has_constraints(t) {
-        return !conforms(syntax::Form::CMSContentConstraints, constraints_value(t));
+    if present {
+        return !conforms(syntax::Form::CMSContentConstraints, value);
     }
     false
 }
 
-// The checks of an add up to status 17 for size, in the order of 01.
+// The checks of an add up to status 17 for size, in the order of 01. Each part is found once.
 pub fn judge(t: &[u8]) -> Judged
     ensures { λ r. ⌜ r ≡ judgeOf (now (t .entry)) ⌝ }
 {
-    let version = version(t);
+    let info = root(t);
+    let version = der::field(t, info, 0x02);
     if version.good {
         return Judged::OtherVersion;
     }
-    let path = cert_path(t);
+    let id = der::field(t, info, 0x04);
+    let path = der::field_behind(t, info, id, 0x30);
     if path.good {
         return Judged::CertPath;
     }
-    if repeated_extension(t) {
+    let list = der::field(t, der::field(t, info, 0xA1), 0x30);
+    if !is_distinct(t, list, Compared::Types) {
         return Judged::RepeatedExtension;
     }
-    if critical_extension(t) {
+    if has_other_critical(t, list) {
         return Judged::CriticalExtension;
     }
-    if bad_constraints(t) {
+    let constraints = constraints_in(t, list);
+    let value = extn_value(t, constraints);
+    if bad_constraints(constraints.good, value) {
         return Judged::ConstraintsSyntax;
     }
-    let faults = rights_faults(constraints_value(t));
+    judge_rights(t, der::contents(t, id), value)
+}
+
+// Those behind the syntax: of the rights that the constraints value v stands for, and of the sizes of t and its identifier k.
+fn judge_rights(t: &[u8], k: &[u8], v: &[u8]) -> Judged
+    ensures { λ r. ⌜ r ≡ judgeRights (now (t .entry)) (now (k .entry)) (constraintsRights (now (v .entry))) ⌝ }
+{
+    let faults = rights_faults(v);
     if faults.repeated {
         return Judged::RepeatedConstraint;
     }
@@ -536,7 +560,7 @@ pub fn judge(t: &[u8]) -> Judged
     if MAX_ANCHOR_OCTETS < t.len() {
         return Judged::AnchorOctets;
     }
-    if identifier_outside(t) {
+    if identifier_outside(k) {
         return Judged::KeyIdentifierOctets;
     }
     if faults.entries {

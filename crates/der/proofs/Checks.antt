@@ -2,16 +2,19 @@
 use Prim.Native.Nat.{ℕ, zero, suc, _-_, _≤_, _<_}
 use native.Mathlib.Omega.{arith}
 use mathlib.Core.Bool.{true, false}
-use mathlib.Core.List.{List}
+use mathlib.Core.List.{List, [], _∷_}
 use mathlib.Core.Path.{_≡_, refl, _∙_}
 use lib.Dec.{eqb}
 use borrow.Author.Tests.{lt-ltb, le-ltb, eq-eqb, ne-eqb}
 use Rattle.octets.specs.Octets.{ordered}
+use Rattle.octets.proofs.Lists.{by-test}
+use Rattle.octets.proofs.Compare.{ordered-refl}
+use Rattle.octets.proofs.Parts.{part-none}
 use Rattle.der.specs.declared.Element.{Element}
 use Rattle.der.specs.declared.Fit.{Fit}
 use Rattle.der.specs.declared.Fit.the-variants.{Breaks}
-use Rattle.der.specs.Element.{elementAt, inside, whole, contents, constructed}
-use Rattle.der.specs.Fit.{andThen, held, each}
+use Rattle.der.specs.Element.{absent, elementAt, inside, whole, contents, constructed}
+use Rattle.der.specs.Fit.{andThen, held, eachFrom, each}
 use Rattle.der.specs.Contents.{contentsOk}
 use Rattle.der.specs.Check.{sortedIn, der, spans}
 use Rattle.der.proofs.Bools.{on-true, on-false}
@@ -28,6 +31,19 @@ module _ (outer : Element) (s : List ℕ) (former e : Element) where
   pub sorted-set : outer .tag ≡ 49 → sortedIn outer s former e ≡ ordered (whole s former) (whole s e)
   unfolding sortedIn
   sorted-set h = on-true (eqb (outer .tag) 49) (ordered (whole s former) (whole s e)) true (eq-eqb _ _ h)
+
+-- the first member of a run has itself before it, and might as well have nothing: both are in order
+module _ (outer : Element) (s : List ℕ) (at : ℕ) where
+  sorted-first : (e : Element) → sortedIn outer s (absent at) e ≡ sortedIn outer s e e
+  unfolding sortedIn ordered
+  sorted-first e =
+      let n : at ≤ at = omega arith in
+      by-test (eqb (outer .tag) 49) (λ t. rw (t, sortedIn, part-none s at at n, ordered-refl (whole s e))) (λ t. rw (t, sortedIn))
+
+  pub each-first : (d : ℕ) (es : List Element) → eachFrom (memberFit d s outer) (absent at) es ≡ each (memberFit d s outer) es
+  unfolding each eachFrom
+  each-first d [] = refl
+  each-first d (e ∷ es) = rw (sorted-first e)
 
 module _ (s : List ℕ) (e : Element) where
   opened : ℕ → Fit

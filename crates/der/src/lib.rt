@@ -290,7 +290,8 @@ pub fn check_element(s: &[u8], e: Element, depth: usize) -> Fit
     check_contents(s, e)
 }
 
-// The run of elements inside a constructed one fills it; each has this depth left for it, and in a SET stands in order.
+// The run of elements inside a constructed one fills it; each has this depth left for it, and in a SET stands in order. Before the first stands none,
+// and that is in order.
 pub fn check_run(s: &[u8], outer: Element, depth: usize) -> Fit
     ensures { λ r.
         ⌜ r ≡ each
@@ -299,9 +300,9 @@ pub fn check_run(s: &[u8], outer: Element, depth: usize) -> Fit
 {
     let stop = outer.stop;
     let mut at = outer.start;
-    let mut e = element_at(s, at, stop);
-    let mut former = e;
+    let mut former = no_element(at);
     while at < stop {
+        let e = element_at(s, at, stop);
         if !e.good {
             return Fit::Breaks(e.at);
         }
@@ -313,7 +314,6 @@ pub fn check_run(s: &[u8], outer: Element, depth: usize) -> Fit
         }
         at = e.stop;
         former = e;
-        e = element_at(s, at, stop);
     }
     Fit::Fits
 }

@@ -56,7 +56,7 @@ storable-identifier t e =
     let n = length (keyIdentifier t) in
     leb-true n maxKeyIdentifier (and-eq-true-iff (leb 1 n) (leb n maxKeyIdentifier) .0 (not-false _ (j .0)) .1)
 
-length-hex : (s : List ℕ) → length (hex s) ≡ length s + length s
+pub length-hex : (s : List ℕ) → length (hex s) ≡ length s + length s
 unfolding hex
 length-hex [] = refl
 length-hex (x ∷ s) = omega (arith, length-hex s)

@@ -56,7 +56,7 @@ fn hex_digit(n: u8) -> u8
 }
 
 // Octets in hex, two digits each.
-fn put_hex(buf: &mut [u8], at: usize, s: &[u8]) -> usize
+pub fn put_hex(buf: &mut [u8], at: usize, s: &[u8]) -> usize
     requires { ⌜ at + length (hex (now s)) ≤ length (now buf) ⌝ }
     ensures { λ r. ⌜ (r ≡ at + length (hex (now (s .entry)))) × (now (buf .exit) ≡ placed (now (buf .entry)) at (hex (now (s .entry)))) ⌝ }
 {

@@ -1,33 +1,38 @@
--- `same` and `ordered` as a loop reads them: octet by octet, from the place that it has reached.
+-- `same` and `ordered` as a loop reads them: octet by octet, `same` from the last on, `ordered` from the first.
 use Prim.Native.Nat.{ℕ, _+_, _≤_, _<_}
 use native.Mathlib.Numerals.{add-one}
 use native.Mathlib.Omega.{arith}
 use mathlib.Core.Bool.{true, false}
-use mathlib.Core.List.{List}
-use mathlib.Core.Path.{_≡_, ap}
+use mathlib.Core.List.{List, [], _∷_}
+use mathlib.Core.Path.{_≡_, refl, sym, ap, _∙_}
 use lib.ListN.{length, getD, drop, drop-of-length-le}
 use lib.Seq.{drop-cons}
 use borrow.Author.Tests.{eq-eqb, ne-eqb, lt-ltb, le-ltb}
 use Rattle.octets.specs.Octets.{same, ordered}
-use Rattle.octets.proofs.Lists.{≢→same}
+use Rattle.octets.proofs.Lists.{same-refl, ≢→same}
 
--- octet strings of two lengths differ
-pub same-lengths : (s t : List ℕ) → (length s ≡ length t → ⊥) → same s t ≡ false
-same-lengths s t h = ≢→same s t (λ e. h (ap length e))
+-- octet strings differ that have two lengths, or two octets at one place
+module _ (s t : List ℕ) where
+  pub same-lengths : (length s ≡ length t → ⊥) → same s t ≡ false
+  same-lengths h = ≢→same s t (λ e. h (ap length e))
+
+  pub same-differ : (i : ℕ) → (getD s i 0 ≡ getD t i 0 → ⊥) → same s t ≡ false
+  same-differ i h = ≢→same s t (λ e. h (ap (λ (l : List ℕ). getD l i 0) e))
+
+  -- from the last octet to the first: what stands from a place on is equal
+  pub rest-none : length s ≡ length t → drop (length s) s ≡ drop (length s) t
+  rest-none e =
+      let p : length s ≤ length s = omega arith in
+      let q : length t ≤ length s = omega arith in
+      drop-of-length-le s p ∙ sym (drop-of-length-le t q)
+
+  pub rest-more : (i : ℕ) → i < length s → i < length t → getD s i 0 ≡ getD t i 0 → drop (i + 1) s ≡ drop (i + 1) t → drop i s ≡ drop i t
+  rest-more i p q e r = rw (drop-cons s i 0 p, drop-cons t i 0 q, e, ← add-one i, r)
+
+  pub rest-all : drop 0 s ≡ drop 0 t → same s t ≡ true
+  rest-all e = rw e (same-refl t)
 
 module _ (s t : List ℕ) (i : ℕ) where
-  pub same-end : length s ≤ i → length t ≤ i → same (drop i s) (drop i t) ≡ true
-  unfolding same
-  same-end p q = rw (drop-of-length-le s p, drop-of-length-le t q)
-
-  pub same-turn : i < length s → i < length t → getD s i 0 ≡ getD t i 0 → same (drop i s) (drop i t) ≡ same (drop (i + 1) s) (drop (i + 1) t)
-  unfolding same
-  same-turn p q e = rw (add-one, drop-cons s i 0 p, drop-cons t i 0 q, eq-eqb _ _ e)
-
-  pub same-differ : i < length s → i < length t → (getD s i 0 ≡ getD t i 0 → ⊥) → same (drop i s) (drop i t) ≡ false
-  unfolding same
-  same-differ p q n = rw (drop-cons s i 0 p, drop-cons t i 0 q, ne-eqb _ _ n)
-
   pub ordered-end : length s ≤ i → ordered (drop i s) (drop i t) ≡ true
   unfolding ordered
   ordered-end p = rw (drop-of-length-le s p)
@@ -53,3 +58,10 @@ module _ (s t : List ℕ) (i : ℕ) where
   ordered-turn p q e =
       let n : getD t i 0 ≤ getD s i 0 = omega arith in
       rw (add-one, drop-cons s i 0 p, drop-cons t i 0 q, le-ltb _ _ n, eq-eqb _ _ e)
+
+pub ordered-refl : (s : List ℕ) → ordered s s ≡ true
+unfolding ordered
+ordered-refl [] = refl
+ordered-refl (x ∷ s) =
+    let n : x ≤ x = omega arith in
+    rw (le-ltb x x n, eq-eqb x x refl) (ordered-refl s)

@@ -80,19 +80,19 @@ impl Status {
     pub const LONG_REPLY: Status = Status { number: 205 };
 }
 
-// Two octet strings are equal.
+// Two octet strings are equal. From the last octet to the first: keys and OIDs begin alike and differ in their last octets, so a difference is found at once.
 pub fn equal(a: &[u8], b: &[u8]) -> bool
     ensures { λ r. ⌜ r ≡ same (now (a .entry)) (now (b .entry)) ⌝ }
 {
     if a.len() != b.len() {
         return false;
     }
-    let mut i = 0;
-    while i < a.len() {
+    let mut i = a.len();
+    while 0 < i {
+        i -= 1;
         if a[i] != b[i] {
             return false;
         }
-        i += 1;
     }
     true
 }

@@ -3,24 +3,17 @@
 use libc::STDIN_FILENO;
 use libc::STDOUT_FILENO;
 
-// A digit of a number below 16.
-fn digit(n: u8) -> u8 {
-    if n < 10 {
-        return 48 + n;
-    }
-    if n < 16 {
-        return 55 + n;
-    }
-    63
-}
+// So many octets are printed at a time.
+const CHUNK: usize = 2048;
 
+// Octets in hex.
 fn print_octets(o: &[u8]) {
+    let mut text = [0u8; 4096];
     let mut i = 0;
     while i < o.len() {
-        let x = o[i];
-        let pair = [digit(x / 16), digit(x % 16)];
-        io::write_all(STDOUT_FILENO, &pair);
-        i += 1;
+        let n = listing::put_hex(&mut text, 0, octets::part(o, i, i + CHUNK));
+        io::write_all(STDOUT_FILENO, &text[..n]);
+        i += CHUNK;
     }
 }
 

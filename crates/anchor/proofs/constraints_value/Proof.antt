@@ -6,15 +6,12 @@ use Rattle.anchor.proofs.constraints_value.Tie as tie
 constraints-extension-requires : tie.Need-constraints-extension-requires
 constraints-extension-requires c κs = search needs
 
-field-requires : tie.Need-field-requires
-field-requires c κs = search needs
-
-contents-requires : tie.Need-contents-requires
-contents-requires c κs = search needs
+extn-value-requires : tie.Need-extn-value-requires
+extn-value-requires c κs = search needs
 
 returns : tie.Need-returns
-returns c = rw (c .contents .ensures, c .before .field .ensures, c .before .before .constraints-extension .ensures)
+returns c = rw (c .extn-value .ensures, c .before .constraints-extension .ensures)
 
 pub constraints-value-spec : {M : Type 1} → statement M
 constraints-value-spec =
-    tie.close (tie.spec constraints-extension-requires field-requires contents-requires returns)
+    tie.close (tie.spec constraints-extension-requires extn-value-requires returns)

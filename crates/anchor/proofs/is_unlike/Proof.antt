@@ -7,8 +7,8 @@ use Rattle.anchor.proofs.Constraints.{unlike-other, unlike-generation, 
 use Rattle.anchor.proofs.is_unlike.Statement.{statement}
 use Rattle.anchor.proofs.is_unlike.Tie as tie
 
-key-requires : tie.Need-key-requires
-key-requires c κs = search needs
+type-of-requires : tie.Need-type-of-requires
+type-of-requires c κs = search needs
 
 slice-aggregate-equal : tie.Need-slice-aggregate-equal
 slice-aggregate-equal c = search needs
@@ -19,7 +19,7 @@ equal-requires c κs = search needs
 returns : tie.Need-returns
 unfolding anyContentType
 returns c =
-    let k = c .before .before .before .key .ensures in
+    let k = c .before .before .before .type-of .ensures in
     let m = c .before .equal .ensures in
     sym (unlike-other _ _ k m (not-true _ (c .if1 .taken)))
 
@@ -29,7 +29,7 @@ field-requires c κs = search needs
 returns-2 : tie.Need-returns-2
 unfolding anyContentType
 returns-2 c =
-    let k = c .before .before .before .before .before .key .ensures in
+    let k = c .before .before .before .before .before .type-of .ensures in
     let m = c .before .before .before .equal .ensures in
     sym (unlike-generation _ _ k m (not-false _ (c .before .before .if1 .left)) (c .before .field .ensures) (c .if2 .taken))
 
@@ -42,7 +42,7 @@ more-than-requires c κs = search needs
 returns-3 : tie.Need-returns-3
 unfolding anyContentType
 returns-3 c =
-    let k = c .before .before .before .before .before .before .before .key .ensures in
+    let k = c .before .before .before .before .before .before .before .type-of .ensures in
     let m = c .before .before .before .before .before .equal .ensures in
     unlike-constrained _ _ k m (not-false _ (c .before .before .before .before .if1 .left)) (c .before .before .before .field .ensures) (c .before .before .if2 .left) (c .before .field2 .ensures) (c .more-than .ensures)
 
@@ -50,7 +50,7 @@ pub is-unlike-spec : {M : Type 1} → statement M
 is-unlike-spec =
     tie.close
     (tie.spec
-    key-requires
+    type-of-requires
     slice-aggregate-equal
     equal-requires
     returns

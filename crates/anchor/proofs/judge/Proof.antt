@@ -1,159 +1,129 @@
 -- `anchor::judge` meets its contract. Assumes nothing.
 use borrow.Author.Needs.{needs}
-use mathlib.Core.Path.{_≡_, sym, ap, _∙_}
-use borrow.Author.Tests.{lt-ltb, le-ltb}
-use Rattle.der.specs.declared.Element.{Element}
-use Rattle.anchor.specs.Faults.{rightsFaults}
-use Rattle.anchor.specs.Info.{rightsOf}
-use Rattle.anchor.proofs.Stages.{Past, start, passed, given, given-last, all-faults, repeated-is, unlike-is, entries-is, attributes-is, values-is, octets-is}
+use mathlib.Core.Path.{_≡_, _∙_}
+use Rattle.anchor.specs.Info.{constraintsExtension}
+use Rattle.anchor.specs.Role.{extensionList}
+use Rattle.anchor.proofs.Stages.{
+  version-is,
+  identifier-is,
+  path-is,
+  list-is,
+  repeated-extension-is,
+  critical-extension-is,
+  constraints-is,
+  value-is,
+  bad-constraints-is,
+  rights-is,
+  Past,
+  start,
+  passed,
+  given,
+  given-last,
+}
 use Rattle.anchor.proofs.judge.Statement.{statement}
 use Rattle.anchor.proofs.judge.Tie as tie
 
-found : (c : tie.After-rights-faults)
-    → c .rights-faults .result ≡ rightsFaults (rightsOf (c .before .before .before .before .before .before .before .before .before .before .before .before .before .args .t .now))
-found c = all-faults _ (c .before .constraints-value .ensures) (c .rights-faults .ensures)
+listed : (c : tie.After-field4) → c .field4 .result ≡ extensionList (c .before .before .before .before .before .before .before .before .before .args .t .now)
+listed c = list-is _ (c .before .before .before .before .before .before .before .root .ensures) (c .before .field3 .ensures) (c .field4 .ensures)
 
-past-1 : (c : tie.Else1)
-    → Past 1 (c .before .before .before .args .t .now)
-past-1 c = passed 0 (start _) (ap (λ (x : Element). x .good) (sym (c .before .version .ensures)) ∙ c .if1 .left)
+constraints : (c : tie.After-constraints-in) → c .constraints-in .result ≡ constraintsExtension (c .before .before .before .before .before .before .before .before .before .before .before .before .before .before .args .t .now)
+constraints c = constraints-is _ (listed (c .before .before .before .before .before)) (c .constraints-in .ensures)
 
-past-2 : (c : tie.Else2)
-    → Past 2 (c .before .before .before .before .before .args .t .now)
-past-2 c = passed 1 (past-1 (c .before .before)) (ap (λ (x : Element). x .good) (sym (c .before .cert-path .ensures)) ∙ c .if2 .left)
+past-1 : (c : tie.Else1) → Past 1 (c .before .before .before .before .args .t .now)
+past-1 c = passed (start _) (version-is _ (c .before .before .root .ensures) (c .before .field .ensures) ∙ c .if1 .left)
 
-past-3 : (c : tie.Else3)
-    → Past 3 (c .before .before .before .before .before .before .before .args .t .now)
-past-3 c = passed 2 (past-2 (c .before .before)) (sym (c .before .repeated-extension .ensures) ∙ c .if3 .left)
+past-2 : (c : tie.Else2) → Past 2 (c .before .before .before .before .before .before .before .args .t .now)
+past-2 c = passed (past-1 (c .before .before .before)) (path-is _ (c .before .before .before .before .before .root .ensures) (c .before .before .field2 .ensures) (c .before .field-behind .ensures) ∙ c .if2 .left)
 
-past-4 : (c : tie.Else4)
-    → Past 4 (c .before .before .before .before .before .before .before .before .before .args .t .now)
-past-4 c = passed 3 (past-3 (c .before .before)) (sym (c .before .critical-extension .ensures) ∙ c .if4 .left)
+past-3 : (c : tie.Else3) → Past 3 (c .before .before .before .before .before .before .before .before .before .before .before .args .t .now)
+past-3 c = passed (past-2 (c .before .before .before .before)) (repeated-extension-is _ (listed (c .before .before)) (c .before .is-distinct .ensures) ∙ c .if3 .left)
 
-past-5 : (c : tie.Else5)
-    → Past 5 (c .before .before .before .before .before .before .before .before .before .before .before .args .t .now)
-past-5 c = passed 4 (past-4 (c .before .before)) (sym (c .before .bad-constraints .ensures) ∙ c .if5 .left)
+past-4 : (c : tie.Else4) → Past 4 (c .before .before .before .before .before .before .before .before .before .before .before .before .before .args .t .now)
+past-4 c = passed (past-3 (c .before .before)) (critical-extension-is _ (listed (c .before .before .before .before)) (c .before .has-other-critical .ensures) ∙ c .if4 .left)
 
-past-6 : (c : tie.Else6)
-    → Past 6 (c .before .before .before .before .before .before .before .before .before .before .before .before .before .before .args .t .now)
-past-6 c = passed 5 (past-5 (c .before .before .before)) (repeated-is _ (found (c .before)) ∙ c .if6 .left)
+past-5 : (c : tie.Else5) → Past 5 (c .before .before .before .before .before .before .before .before .before .before .before .before .before .before .before .before .before .args .t .now)
+past-5 c = passed (past-4 (c .before .before .before .before)) (bad-constraints-is _ (constraints (c .before .before .before)) (c .before .before .extn-value .ensures) (c .before .bad-constraints .ensures) ∙ c .if5 .left)
 
-past-7 : (c : tie.Else7)
-    → Past 7 (c .before .before .before .before .before .before .before .before .before .before .before .before .before .before .before .args .t .now)
-past-7 c = passed 6 (past-6 (c .before)) (unlike-is _ (found (c .before .before)) ∙ c .if7 .left)
+root-requires : tie.Need-root-requires
+root-requires c κs = search needs
 
-past-8 : (c : tie.Else8)
-    → Past 8 (c .before .before .before .before .before .before .before .before .before .before .before .before .before .before .before .before .args .t .now)
-past-8 c = passed 7 (past-7 (c .before)) (le-ltb _ _ (c .if8 .left))
-
-past-9 : (c : tie.Else9)
-    → Past 9 (c .before .before .before .before .before .before .before .before .before .before .before .before .before .before .before .before .before .before .args .t .now)
-past-9 c = passed 8 (past-8 (c .before .before)) (sym (c .before .identifier-outside .ensures) ∙ c .if9 .left)
-
-past-10 : (c : tie.Else10)
-    → Past 10 (c .before .before .before .before .before .before .before .before .before .before .before .before .before .before .before .before .before .before .before .args .t .now)
-past-10 c = passed 9 (past-9 (c .before)) (entries-is _ (found (c .before .before .before .before .before .before)) ∙ c .if10 .left)
-
-past-11 : (c : tie.Else11)
-    → Past 11 (c .before .before .before .before .before .before .before .before .before .before .before .before .before .before .before .before .before .before .before .before .args .t .now)
-past-11 c = passed 10 (past-10 (c .before)) (attributes-is _ (found (c .before .before .before .before .before .before .before)) ∙ c .if11 .left)
-
-past-12 : (c : tie.Else12)
-    → Past 12 (c .before .before .before .before .before .before .before .before .before .before .before .before .before .before .before .before .before .before .before .before .before .args .t .now)
-past-12 c = passed 11 (past-11 (c .before)) (values-is _ (found (c .before .before .before .before .before .before .before .before)) ∙ c .if12 .left)
-
-past-13 : (c : tie.Else13)
-    → Past 13 (c .before .before .before .before .before .before .before .before .before .before .before .before .before .before .before .before .before .before .before .before .before .before .args .t .now)
-past-13 c = passed 12 (past-12 (c .before)) (octets-is _ (found (c .before .before .before .before .before .before .before .before .before)) ∙ c .if13 .left)
-
-version-requires : tie.Need-version-requires
-version-requires c κs = search needs
+field-requires : tie.Need-field-requires
+field-requires c κs = search needs
 
 returns : tie.Need-returns
-returns c = given 0 (start _) (ap (λ (x : Element). x .good) (sym (c .before .version .ensures)) ∙ c .if1 .taken)
+returns c = given (start _) (version-is _ (c .before .before .root .ensures) (c .before .field .ensures) ∙ c .if1 .taken)
 
-cert-path-requires : tie.Need-cert-path-requires
-cert-path-requires c κs = search needs
+field-requires-2 : tie.Need-field-requires-2
+field-requires-2 c κs = search needs
+
+field-behind-requires : tie.Need-field-behind-requires
+field-behind-requires c κs = search needs
 
 returns-2 : tie.Need-returns-2
-returns-2 c = given 1 (past-1 (c .before .before)) (ap (λ (x : Element). x .good) (sym (c .before .cert-path .ensures)) ∙ c .if2 .taken)
+returns-2 c = given (past-1 (c .before .before .before)) (path-is _ (c .before .before .before .before .before .root .ensures) (c .before .before .field2 .ensures) (c .before .field-behind .ensures) ∙ c .if2 .taken)
 
-repeated-extension-requires : tie.Need-repeated-extension-requires
-repeated-extension-requires c κs = search needs
+field-requires-3 : tie.Need-field-requires-3
+field-requires-3 c κs = search needs
+
+field-requires-4 : tie.Need-field-requires-4
+field-requires-4 c κs = search needs
+
+is-distinct-requires : tie.Need-is-distinct-requires
+is-distinct-requires c κs = search needs
 
 returns-3 : tie.Need-returns-3
-returns-3 c = given 2 (past-2 (c .before .before)) (sym (c .before .repeated-extension .ensures) ∙ c .if3 .taken)
+returns-3 c = given (past-2 (c .before .before .before .before)) (repeated-extension-is _ (listed (c .before .before)) (c .before .is-distinct .ensures) ∙ c .if3 .taken)
 
-critical-extension-requires : tie.Need-critical-extension-requires
-critical-extension-requires c κs = search needs
+has-other-critical-requires : tie.Need-has-other-critical-requires
+has-other-critical-requires c κs = search needs
 
 returns-4 : tie.Need-returns-4
-returns-4 c = given 3 (past-3 (c .before .before)) (sym (c .before .critical-extension .ensures) ∙ c .if4 .taken)
+returns-4 c = given (past-3 (c .before .before)) (critical-extension-is _ (listed (c .before .before .before .before)) (c .before .has-other-critical .ensures) ∙ c .if4 .taken)
+
+constraints-in-requires : tie.Need-constraints-in-requires
+constraints-in-requires c κs = search needs
+
+extn-value-requires : tie.Need-extn-value-requires
+extn-value-requires c κs = search needs
 
 bad-constraints-requires : tie.Need-bad-constraints-requires
 bad-constraints-requires c κs = search needs
 
 returns-5 : tie.Need-returns-5
-returns-5 c = given 4 (past-4 (c .before .before)) (sym (c .before .bad-constraints .ensures) ∙ c .if5 .taken)
+returns-5 c = given (past-4 (c .before .before .before .before)) (bad-constraints-is _ (constraints (c .before .before .before)) (c .before .before .extn-value .ensures) (c .before .bad-constraints .ensures) ∙ c .if5 .taken)
 
-constraints-value-requires : tie.Need-constraints-value-requires
-constraints-value-requires c κs = search needs
+contents-requires : tie.Need-contents-requires
+contents-requires c κs = search needs
 
-rights-faults-requires : tie.Need-rights-faults-requires
-rights-faults-requires c κs = search needs
+judge-rights-requires : tie.Need-judge-rights-requires
+judge-rights-requires c κs = search needs
 
 returns-6 : tie.Need-returns-6
-returns-6 c = given 5 (past-5 (c .before .before .before)) (repeated-is _ (found (c .before)) ∙ c .if6 .taken)
-
-returns-7 : tie.Need-returns-7
-returns-7 c = given 6 (past-6 (c .before)) (unlike-is _ (found (c .before .before)) ∙ c .if7 .taken)
-
-returns-8 : tie.Need-returns-8
-returns-8 c = given 7 (past-7 (c .before)) (lt-ltb _ _ (c .if8 .taken))
-
-identifier-outside-requires : tie.Need-identifier-outside-requires
-identifier-outside-requires c κs = search needs
-
-returns-9 : tie.Need-returns-9
-returns-9 c = given 8 (past-8 (c .before .before)) (sym (c .before .identifier-outside .ensures) ∙ c .if9 .taken)
-
-returns-10 : tie.Need-returns-10
-returns-10 c = given 9 (past-9 (c .before)) (entries-is _ (found (c .before .before .before .before .before .before)) ∙ c .if10 .taken)
-
-returns-11 : tie.Need-returns-11
-returns-11 c = given 10 (past-10 (c .before)) (attributes-is _ (found (c .before .before .before .before .before .before .before)) ∙ c .if11 .taken)
-
-returns-12 : tie.Need-returns-12
-returns-12 c = given 11 (past-11 (c .before)) (values-is _ (found (c .before .before .before .before .before .before .before .before)) ∙ c .if12 .taken)
-
-returns-13 : tie.Need-returns-13
-returns-13 c = given 12 (past-12 (c .before)) (octets-is _ (found (c .before .before .before .before .before .before .before .before .before)) ∙ c .if13 .taken)
-
-returns-14 : tie.Need-returns-14
-returns-14 c = given-last (past-13 c)
+returns-6 c =
+    let k = identifier-is _ (c .before .before .before .before .before .before .before .before .before .before .before .before .before .before .before .before .before .root .ensures) (c .before .before .before .before .before .before .before .before .before .before .before .before .before .before .field2 .ensures) (c .before .contents .ensures) in
+    let v = value-is _ (constraints (c .before .before .before .before .before)) (c .before .before .before .before .extn-value .ensures) in
+    rights-is _ k v (c .judge-rights .ensures) ∙ given-last (past-5 (c .before .before))
 
 pub judge-spec : {M : Type 1} → statement M
 judge-spec =
     tie.close
     (tie.spec
-    version-requires
+    root-requires
+    field-requires
     returns
-    cert-path-requires
+    field-requires-2
+    field-behind-requires
     returns-2
-    repeated-extension-requires
+    field-requires-3
+    field-requires-4
+    is-distinct-requires
     returns-3
-    critical-extension-requires
+    has-other-critical-requires
     returns-4
+    constraints-in-requires
+    extn-value-requires
     bad-constraints-requires
     returns-5
-    constraints-value-requires
-    rights-faults-requires
-    returns-6
-    returns-7
-    returns-8
-    identifier-outside-requires
-    returns-9
-    returns-10
-    returns-11
-    returns-12
-    returns-13
-    returns-14)
+    contents-requires
+    judge-rights-requires
+    returns-6)

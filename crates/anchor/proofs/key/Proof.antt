@@ -7,11 +7,8 @@ use Rattle.anchor.proofs.key.Tie as tie
 enum-told : tie.Need-enum-told
 enum-told c = search needs
 
-field-requires : tie.Need-field-requires
-field-requires c κs = search needs
-
-contents-requires : tie.Need-contents-requires
-contents-requires c κs = search needs
+type-of-requires : tie.Need-type-of-requires
+type-of-requires c κs = search needs
 
 enum-told-2 : tie.Need-enum-told-2
 enum-told-2 c = search needs
@@ -21,7 +18,7 @@ whole-requires c κs = search needs
 
 returns : tie.Need-returns
 unfolding keyOf
-returns c = rw (c .before .before .enum-told .given .1, c .contents .ensures, c .before .field .ensures)
+returns c = rw (c .before .enum-told .given .1, c .type-of .ensures)
 
 returns-2 : tie.Need-returns-2
 unfolding keyOf
@@ -32,8 +29,7 @@ key-spec =
     tie.close
     (tie.spec
     enum-told
-    field-requires
-    contents-requires
+    type-of-requires
     enum-told-2
     whole-requires
     returns

@@ -5,12 +5,11 @@ use native.Mathlib.Omega.{arith}
 use borrow.Author.Needs.{needs}
 use mathlib.Core.Path.{_≡_, sym, _∙_}
 use borrow.Author.Tests.{not-true, not-false}
-use Rattle.der.specs.Element.{elementAt, elements, inside}
+use Rattle.der.specs.Element.{elements, inside}
 use Rattle.der.specs.Fit.{eachFrom, each}
 use Rattle.der.proofs.Elements.{good-within}
-use Rattle.der.proofs.Fits.{then-fits, then-breaks, held-fits, held-breaks, each-start, each-end, each-broken, each-breaks, each-turn}
-use Rattle.der.proofs.Checks.{memberFit, der-deep, der-bad, der-run, der-leaf}
-use Prim.Native.Nat.{ℕ, _<_}
+use Rattle.der.proofs.Fits.{then-fits, then-breaks, held-fits, held-breaks, each-end, each-broken, each-breaks, each-turn}
+use Rattle.der.proofs.Checks.{memberFit, each-first, der-deep, der-bad, der-run, der-leaf}
 use borrow.Fn.Kinds.{In}
 use borrow.Fn.PlainCycle.{Measures, is, falls, and}
 use Rattle.der.proofs.check_element.Reads as check-element
@@ -23,6 +22,7 @@ use Rattle.der.proofs.check_contents.Reads as check-contents-reads
 use Rattle.der.proofs.element_at.Reads as element-at-reads
 use Rattle.der.proofs.is_constructed.Reads as is-constructed-reads
 use Rattle.der.proofs.is_sorted.Reads as is-sorted-reads
+use Rattle.der.proofs.no_element.Reads as no-element-reads
 use Rattle.der.proofs.+check_element+check_run.{statement}
 use Rattle.der.proofs.+check_element+check_run.Tie.{close}
 
@@ -136,14 +136,15 @@ check-element-returns-4 t c =
     c .check-contents .ensures ∙ sym (der-leaf _ _ _ (c .before .before .before .before .before .if1 .left) (not-false _ (c .before .before .before .if2 .left)) k)
 
 abbrev check-run-Inv-loop : check-run-lts.InvT-loop
-check-run-Inv-loop s outer depth stop at₀ e₀ former₀ at e former =
-    (e ≡ elementAt s at (outer .stop))
-    × (eachFrom (memberFit depth s outer) former (elements s at (outer .stop)) ≡ each (memberFit depth s outer) (inside s outer))
+check-run-Inv-loop s outer depth stop at₀ former₀ at former =
+    eachFrom (memberFit depth s outer) former (elements s at (outer .stop)) ≡ each (memberFit depth s outer) (inside s outer)
 
 abbrev check-run-μ-loop : check-run-lts.MeasureT-loop
-check-run-μ-loop s outer depth stop at₀ e₀ former₀ at e former = outer .stop - at
+check-run-μ-loop s outer depth stop at₀ former₀ at former = outer .stop - at
 
-check-run-element-at-requires : (t : ℕ) → check-run-lts.Need-element-at-requires (
+check-run-no-element-requires : (t : ℕ) → check-run-lts.Need-no-element-requires (
+  no-element-reads.Asked,
+  no-element-reads.Learnt,
   element-at-reads.Asked,
   element-at-reads.Learnt,
   check-element-below t,
@@ -151,9 +152,11 @@ check-run-element-at-requires : (t : ℕ) → check-run-lts.Need-element-at-requ
   is-sorted-reads.Asked,
   is-sorted-reads.Learnt,
 ) (check-run-at t) check-run.Post check-run-Inv-loop check-run-μ-loop
-check-run-element-at-requires t c κs = search needs
+check-run-no-element-requires t c κs = search needs
 
 check-run-loop-holds : (t : ℕ) → check-run-lts.Need-loop-holds (
+  no-element-reads.Asked,
+  no-element-reads.Learnt,
   element-at-reads.Asked,
   element-at-reads.Learnt,
   check-element-below t,
@@ -163,10 +166,23 @@ check-run-loop-holds : (t : ℕ) → check-run-lts.Need-loop-holds (
 ) (check-run-at t) check-run.Post check-run-Inv-loop check-run-μ-loop
 check-run-loop-holds t c =
     let a = c .before .before .args in
-    let o = a .outer in
-    (c .element-at .ensures, rw (c .element-at .ensures) (each-start (memberFit (a .depth) (a .s .now) o) (a .s .now) (o .start) (o .stop)))
+    rw (c .no-element .ensures) (each-first (a .outer) (a .s .now) (a .outer .start) (a .depth) (inside (a .s .now) (a .outer)))
+
+check-run-element-at-requires : (t : ℕ) → check-run-lts.Need-element-at-requires (
+  no-element-reads.Asked,
+  no-element-reads.Learnt,
+  element-at-reads.Asked,
+  element-at-reads.Learnt,
+  check-element-below t,
+  check-element.Post,
+  is-sorted-reads.Asked,
+  is-sorted-reads.Learnt,
+) (check-run-at t) check-run.Post check-run-Inv-loop check-run-μ-loop
+check-run-element-at-requires t c κs = search needs
 
 check-run-returns : (t : ℕ) → check-run-lts.Need-returns (
+  no-element-reads.Asked,
+  no-element-reads.Learnt,
   element-at-reads.Asked,
   element-at-reads.Learnt,
   check-element-below t,
@@ -175,13 +191,15 @@ check-run-returns : (t : ℕ) → check-run-lts.Need-returns (
   is-sorted-reads.Learnt,
 ) (check-run-at t) check-run.Post check-run-Inv-loop check-run-μ-loop
 check-run-returns t c =
-    let a = c .before .before .before .before .before .before .args in
-    let l = c .before .before .before .loop in
+    let a = c .before .before .before .before .before .before .before .args in
+    let l = c .before .before .before .before .loop in
     let j = memberFit (a .depth) (a .s .now) (a .outer) in
-    sym (each-broken j (a .s .now) (l .at) (a .outer .stop) (l .former) (l .inv .0) (c .before .before .loop-test .taken) (not-true _ (c .if1 .taken)))
-    ∙ l .inv .1
+    let q = c .before .before .element-at .ensures in
+    sym (each-broken j (a .s .now) (l .at) (a .outer .stop) (l .former) q (c .before .before .before .loop-test .taken) (not-true _ (c .if1 .taken))) ∙ l .inv
 
 check-run-check-element-requires : (t : ℕ) → check-run-lts.Need-check-element-requires (
+  no-element-reads.Asked,
+  no-element-reads.Learnt,
   element-at-reads.Asked,
   element-at-reads.Learnt,
   check-element-below t,
@@ -192,6 +210,8 @@ check-run-check-element-requires : (t : ℕ) → check-run-lts.Need-check-elemen
 check-run-check-element-requires t c κs = omega arith
 
 check-run-enum-known-o : (t : ℕ) → check-run-lts.Need-enum-known-o (
+  no-element-reads.Asked,
+  no-element-reads.Learnt,
   element-at-reads.Asked,
   element-at-reads.Learnt,
   check-element-below t,
@@ -202,6 +222,8 @@ check-run-enum-known-o : (t : ℕ) → check-run-lts.Need-enum-known-o (
 check-run-enum-known-o t c = search needs
 
 check-run-returns-2 : (t : ℕ) → check-run-lts.Need-returns-2 (
+  no-element-reads.Asked,
+  no-element-reads.Learnt,
   element-at-reads.Asked,
   element-at-reads.Learnt,
   check-element-below t,
@@ -210,14 +232,17 @@ check-run-returns-2 : (t : ℕ) → check-run-lts.Need-returns-2 (
   is-sorted-reads.Learnt,
 ) (check-run-at t) check-run.Post check-run-Inv-loop check-run-μ-loop
 check-run-returns-2 t c =
-    let a = c .before .before .before .before .before .before .before .before .before .before .args in
-    let l = c .before .before .before .before .before .before .before .loop in
+    let a = c .before .before .before .before .before .before .before .before .before .before .before .args in
+    let l = c .before .before .before .before .before .before .before .before .loop in
     let j = memberFit (a .depth) (a .s .now) (a .outer) in
+    let q = c .before .before .before .before .before .before .element-at .ensures in
     let g = not-false _ (c .before .before .before .before .if1 .left) in
     let b = sym (c .before .before .before .check-element .ensures) ∙ c .before .o .given .1 in
-    sym (each-breaks j (a .s .now) (l .at) (a .outer .stop) (l .former) (l .inv .0) g (then-breaks _ b)) ∙ l .inv .1
+    sym (each-breaks j (a .s .now) (l .at) (a .outer .stop) (l .former) q g (then-breaks _ b)) ∙ l .inv
 
 check-run-enum-told : (t : ℕ) → check-run-lts.Need-enum-told (
+  no-element-reads.Asked,
+  no-element-reads.Learnt,
   element-at-reads.Asked,
   element-at-reads.Learnt,
   check-element-below t,
@@ -228,6 +253,8 @@ check-run-enum-told : (t : ℕ) → check-run-lts.Need-enum-told (
 check-run-enum-told t c = search needs
 
 check-run-is-sorted-requires : (t : ℕ) → check-run-lts.Need-is-sorted-requires (
+  no-element-reads.Asked,
+  no-element-reads.Learnt,
   element-at-reads.Asked,
   element-at-reads.Learnt,
   check-element-below t,
@@ -238,6 +265,8 @@ check-run-is-sorted-requires : (t : ℕ) → check-run-lts.Need-is-sorted-requir
 check-run-is-sorted-requires t c κs = search needs
 
 check-run-returns-3 : (t : ℕ) → check-run-lts.Need-returns-3 (
+  no-element-reads.Asked,
+  no-element-reads.Learnt,
   element-at-reads.Asked,
   element-at-reads.Learnt,
   check-element-below t,
@@ -246,25 +275,18 @@ check-run-returns-3 : (t : ℕ) → check-run-lts.Need-returns-3 (
   is-sorted-reads.Learnt,
 ) (check-run-at t) check-run.Post check-run-Inv-loop check-run-μ-loop
 check-run-returns-3 t c =
-    let a = c .before .before .before .before .before .before .before .before .before .before .before .args in
-    let l = c .before .before .before .before .before .before .before .before .loop in
+    let a = c .before .before .before .before .before .before .before .before .before .before .before .before .args in
+    let l = c .before .before .before .before .before .before .before .before .before .loop in
     let j = memberFit (a .depth) (a .s .now) (a .outer) in
+    let q = c .before .before .before .before .before .before .before .element-at .ensures in
     let g = not-false _ (c .before .before .before .before .before .if1 .left) in
     let f = sym (c .before .before .before .before .check-element .ensures) ∙ c .before .before .enum-told .given .1 in
     let b = sym (c .before .is-sorted .ensures) ∙ not-true _ (c .if2 .taken) in
-    sym (each-breaks j (a .s .now) (l .at) (a .outer .stop) (l .former) (l .inv .0) g (then-fits _ f ∙ held-breaks _ b)) ∙ l .inv .1
-
-check-run-element-at-requires-2 : (t : ℕ) → check-run-lts.Need-element-at-requires-2 (
-  element-at-reads.Asked,
-  element-at-reads.Learnt,
-  check-element-below t,
-  check-element.Post,
-  is-sorted-reads.Asked,
-  is-sorted-reads.Learnt,
-) (check-run-at t) check-run.Post check-run-Inv-loop check-run-μ-loop
-check-run-element-at-requires-2 t c κs = search needs
+    sym (each-breaks j (a .s .now) (l .at) (a .outer .stop) (l .former) q g (then-fits _ f ∙ held-breaks _ b)) ∙ l .inv
 
 check-run-loop-less : (t : ℕ) → check-run-lts.Need-loop-less (
+  no-element-reads.Asked,
+  no-element-reads.Learnt,
   element-at-reads.Asked,
   element-at-reads.Learnt,
   check-element-below t,
@@ -275,10 +297,13 @@ check-run-loop-less : (t : ℕ) → check-run-lts.Need-loop-less (
 check-run-loop-less t c =
     let a = c .before .before .before .before .before .before .before .before .before .before .before .before .args in
     let l = c .before .before .before .before .before .before .before .before .before .loop in
-    let w = good-within (a .s .now) (l .at) (a .outer .stop) (l .inv .0) (not-false _ (c .before .before .before .before .before .before .if1 .left)) in
+    let q = c .before .before .before .before .before .before .before .element-at .ensures in
+    let w = good-within (a .s .now) (l .at) (a .outer .stop) q (not-false _ (c .before .before .before .before .before .if1 .left)) in
     omega (arith, w)
 
 check-run-loop-again : (t : ℕ) → check-run-lts.Need-loop-again (
+  no-element-reads.Asked,
+  no-element-reads.Learnt,
   element-at-reads.Asked,
   element-at-reads.Learnt,
   check-element-below t,
@@ -290,14 +315,15 @@ check-run-loop-again t c =
     let a = c .before .before .before .before .before .before .before .before .before .before .before .before .args in
     let l = c .before .before .before .before .before .before .before .before .before .loop in
     let j = memberFit (a .depth) (a .s .now) (a .outer) in
-    let g = not-false _ (c .before .before .before .before .before .before .if1 .left) in
-    let f = sym (c .before .before .before .before .before .check-element .ensures) ∙ c .before .before .before .enum-told .given .1 in
-    let b = sym (c .before .before .is-sorted .ensures) ∙ not-false _ (c .before .if2 .left) in (
-      c .element-at2 .ensures,
-      sym (each-turn j (a .s .now) (l .at) (a .outer .stop) (l .former) (l .inv .0) g (then-fits _ f ∙ held-fits _ b)) ∙ l .inv .1,
-    )
+    let q = c .before .before .before .before .before .before .before .element-at .ensures in
+    let g = not-false _ (c .before .before .before .before .before .if1 .left) in
+    let f = sym (c .before .before .before .before .check-element .ensures) ∙ c .before .before .enum-told .given .1 in
+    let b = sym (c .before .is-sorted .ensures) ∙ not-false _ (c .if2 .left) in
+    sym (each-turn j (a .s .now) (l .at) (a .outer .stop) (l .former) q g (then-fits _ f ∙ held-fits _ b)) ∙ l .inv
 
 check-run-returns-4 : (t : ℕ) → check-run-lts.Need-returns-4 (
+  no-element-reads.Asked,
+  no-element-reads.Learnt,
   element-at-reads.Asked,
   element-at-reads.Learnt,
   check-element-below t,
@@ -309,7 +335,7 @@ check-run-returns-4 t c =
     let a = c .before .before .before .before .args in
     let l = c .before .loop in
     let j = memberFit (a .depth) (a .s .now) (a .outer) in
-    sym (each-end j (a .s .now) (l .at) (a .outer .stop) (l .former) (c .loop-test .left)) ∙ l .inv .1
+    sym (each-end j (a .s .now) (l .at) (a .outer .stop) (l .former) (c .loop-test .left)) ∙ l .inv
 
 pub +check-element+check-run-spec : {M : Type 1} → statement M
 +check-element+check-run-spec = close μ-check-element μ-check-run (λ t. check-element-lts.spec (
@@ -331,6 +357,8 @@ pub +check-element+check-run-spec : {M : Type 1} → statement M
     (check-element-check-contents-requires t)
     (check-element-returns-4 t))
     λ t. check-run-lts.spec (
+      no-element-reads.Asked,
+      no-element-reads.Learnt,
       element-at-reads.Asked,
       element-at-reads.Learnt,
       check-element-below t,
@@ -342,8 +370,9 @@ pub +check-element+check-run-spec : {M : Type 1} → statement M
     check-run.Post
     check-run-Inv-loop
     check-run-μ-loop
-    (check-run-element-at-requires t)
+    (check-run-no-element-requires t)
     (check-run-loop-holds t)
+    (check-run-element-at-requires t)
     (check-run-returns t)
     (check-run-check-element-requires t)
     (check-run-enum-known-o t)
@@ -351,7 +380,6 @@ pub +check-element+check-run-spec : {M : Type 1} → statement M
     (check-run-enum-told t)
     (check-run-is-sorted-requires t)
     (check-run-returns-3 t)
-    (check-run-element-at-requires-2 t)
     (check-run-loop-less t)
     (check-run-loop-again t)
     (check-run-returns-4 t)

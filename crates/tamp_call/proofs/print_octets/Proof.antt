@@ -1,30 +1,60 @@
 -- `tamp_call::print_octets` ends and is safe. The loop's measure is what is left of the octets. Assumes nothing.
-use Prim.Native.Nat.{_≤_, _-_}
-use lib.ListN.{length}
+use Prim.Native.Nat.{ℕ, _+_, _-_, _≤_}
+use mathlib.Core.List.{List}
+use mathlib.Core.Path.{_≡_, sym}
+use lib.ListN.{length, length-replicate}
+use lib.Seq.{length-take-le}
 use borrow.Author.Needs.{needs}
+use Rattle.store.specs.Listing.{hex}
+use Rattle.tamp_call.proofs.Chunk.{chunk-fits, chunk-room, chunk-put}
 use Rattle.tamp_call.proofs.print_octets.Statement.{statement}
 use Rattle.tamp_call.proofs.print_octets.Tie as tie
 
 abbrev Inv-loop : tie.InvT-loop
-Inv-loop o i₀ i = i ≤ length o
+Inv-loop o text₀ i₀ text i = length text ≡ 4096
 
 abbrev μ-loop : tie.MeasureT-loop
-μ-loop o i₀ i = length o - i
+μ-loop o text₀ i₀ text i = length o - i
 
 loop-holds : tie.Need-loop-holds Inv-loop μ-loop
-loop-holds c = search needs
+loop-holds c = length-replicate {A = ℕ} 4096 0
 
-shared-slice-read-x : tie.Need-shared-slice-read-x Inv-loop μ-loop
-shared-slice-read-x c = search needs
+slice-aggregate-put-hex : tie.Need-slice-aggregate-put-hex Inv-loop μ-loop
+slice-aggregate-put-hex c = search needs
 
-digit-requires : tie.Need-digit-requires Inv-loop μ-loop
-digit-requires c κs = search needs
+add-part : tie.Need-add-part Inv-loop μ-loop
+add-part c = search needs
 
-digit-requires-2 : tie.Need-digit-requires-2 Inv-loop μ-loop
-digit-requires-2 c κs = search needs
+part-requires : tie.Need-part-requires Inv-loop μ-loop
+part-requires c κs = search needs
+
+-- a chunk that has been taken
+module _ (k : tie.After-part Inv-loop μ-loop) where
+  abbrev loop : tie.At-loop Inv-loop μ-loop
+  loop = k .before .before .before
+
+  abbrev octets : List ℕ
+  octets = loop .before .before .args .o .now
+
+  fits : 0 + length (hex (k .part .result .now)) ≤ length (loop .loop .text)
+  fits = chunk-fits octets (loop .loop .i) (k .part .ensures) (loop .loop .text) (loop .loop .inv)
+
+put-hex-requires : tie.Need-put-hex-requires Inv-loop μ-loop
+put-hex-requires c κs = fits c
+
+-- its text
+module _ (k : tie.After-put-hex Inv-loop μ-loop) where
+  room : length (k .put-hex .last .0) ≡ 4096
+  room = chunk-room _ (hex (k .before .part .result .now)) (fits (k .before)) (loop (k .before) .loop .inv) (k .put-hex .ensures)
+
+  put : k .put-hex .result ≤ length (k .put-hex .last .0)
+  put = chunk-put _ (hex (k .before .part .result .now)) (fits (k .before)) (loop (k .before) .loop .inv) (k .put-hex .ensures)
+
+array-share-prefix-text : tie.Need-array-share-prefix-text Inv-loop μ-loop
+array-share-prefix-text c = put (c .before)
 
 slice-aggregate-write-all : tie.Need-slice-aggregate-write-all Inv-loop μ-loop
-slice-aggregate-write-all c = search needs
+slice-aggregate-write-all c = sym (length-take-le _ _ (put (c .before .before)))
 
 write-all-requires : tie.Need-write-all-requires Inv-loop μ-loop
 write-all-requires c κs = search needs
@@ -36,7 +66,7 @@ loop-less : tie.Need-loop-less Inv-loop μ-loop
 loop-less c = search needs
 
 loop-again : tie.Need-loop-again Inv-loop μ-loop
-loop-again c = search needs
+loop-again c = room (c .before .before .before)
 
 returns : tie.Need-returns Inv-loop μ-loop
 returns c = search needs
@@ -48,9 +78,11 @@ print-octets-spec =
     Inv-loop
     μ-loop
     loop-holds
-    shared-slice-read-x
-    digit-requires
-    digit-requires-2
+    slice-aggregate-put-hex
+    add-part
+    part-requires
+    put-hex-requires
+    array-share-prefix-text
     slice-aggregate-write-all
     write-all-requires
     add-i
