@@ -1,12 +1,11 @@
--- From an image to its store: the signer, and what stands at the signer's position.
+-- The signer's position, and what stands there in the store that octets are read as.
 use Prim.Native.Nat.{ℕ, zero, suc, _+_, _<_}
 use native.Mathlib.Omega.{arith}
 use mathlib.Core.List.{List, [], _∷_, map}
-use mathlib.Core.Option.{some}
 use mathlib.Core.Path.{_≡_, refl, sym, ap, _∙_}
-use lib.ListN.{length, getD, length-map}
+use lib.ListN.{length, drop, getD, length-map}
 use lib.Dec.{eqb}
-use Rattle.octets.specs.Octets.{Octets, same, octet}
+use Rattle.octets.specs.Octets.{same, octet}
 use Rattle.octets.proofs.Lists.{by-test}
 use Rattle.rights.specs.Rights.{nothing}
 use Rattle.rights.specs.Constraints.{constraintsRights}
@@ -15,17 +14,14 @@ use Rattle.anchor.proofs.Rights.{value-rights}
 use Rattle.store.specs.declared.Found.{Found}
 use Rattle.store.specs.declared.Found.the-variants.{At, Unverified, Unknown}
 use Rattle.store.specs.Store.{Anchor, Store, anchors, identifierOf, identifiers}
-use Rattle.store.specs.Image.{decode}
 use Rattle.store.specs.Records.{recordsOf}
-use Rattle.store.specs.Parts.{communityOctets, numberIn}
+use Rattle.store.specs.Parts.{anchorCount, firstRecord, numberIn}
 use Rattle.store.specs.Signer.{signerFrom, signer}
-use Rattle.store.proofs.Walk.{signer-here, signer-unverified, signer-other}
-use Rattle.store.proofs.Taken.{anchorIn}
-use Rattle.store.proofs.Parts.{parts, count-of-anchors, record-at-position}
-use Rattle.message.specs.Names.{namesIn}
-use Rattle.message.proofs.Names.{names-written}
+use Rattle.store.proofs.Walk.{records-of, signer-here, signer-unverified, signer-other}
+use Rattle.store.proofs.Parts.{records-count, record-at-position}
 use Rattle.protocol.specs.Acceptance.{rightsAt, numberAt}
 use Rattle.accept.specs.Signer.{recordOf, constraintsAt, rightsOn}
+use Rattle.accept.specs.Judged.{anchorOf, storeIn}
 
 -- the signer's position is that of an anchor
 module _ (verdict wanted : List ℕ) (j : ℕ) where
@@ -66,33 +62,35 @@ getD-made f [] i a b h = absurd (omega arith)
 getD-made f (x ∷ l) zero a b h = refl
 getD-made f (x ∷ l) (suc i) a b h = getD-made f l i a b (omega arith)
 
-module _ (image : List ℕ) (σ : Store) (d : decode image ≡ some σ) where
-  pub communities-are : Octets image → namesIn (communityOctets image) ≡ σ .communities
-  communities-are o = ap namesIn (parts image σ d .octets o) ∙ names-written (σ .communities)
+-- the first record is the apex
+listed : (l : List (List ℕ)) → 0 < length l → anchorOf (getD l 0 []) ∷ map anchorOf (drop 1 l) ≡ map anchorOf l
+listed [] h = absurd (omega arith)
+listed (r ∷ l) h = refl
 
-  module _ (i : ℕ) (h : i < length (anchors σ)) where
-    -- the anchor at a position
-    anchor-at : anchorIn (recordOf image i) ≡ getD (anchors σ) i (σ .apex)
-    anchor-at =
-        let a = parts image σ d .anchors-are in
-        let k : i < length (recordsOf image) = omega (arith, ap length a, length-map (recordsOf image) anchorIn) in
-        ap anchorIn (sym (record-at-position image i (omega (arith, count-of-anchors image σ d))))
-        ∙ sym (getD-made anchorIn (recordsOf image) i [] (σ .apex) k)
-        ∙ ap (λ (l : List Anchor). getD l i (σ .apex)) a
+-- what stands at a record's position
+module _ (image : List ℕ) (i : ℕ) (h : i < length (recordsOf image)) where
+  pub anchors-are : anchors (storeIn image) ≡ map anchorOf (recordsOf image)
+  unfolding storeIn
+  anchors-are = listed (recordsOf image) (omega arith)
 
-    pub number-at : numberIn (recordOf image i) ≡ numberAt σ i
-    number-at = ap (λ (a : Anchor). a .number) anchor-at
+  anchor-at : anchorOf (recordOf image i) ≡ getD (anchors (storeIn image)) i (storeIn image .apex)
+  anchor-at =
+      let n = records-count (anchorCount image) (drop (firstRecord image) image) in
+      ap anchorOf (sym (record-at-position image i (omega (arith, n, ap length (records-of image)))))
+      ∙ sym (getD-made anchorOf (recordsOf image) i [] (storeIn image .apex) h)
+      ∙ ap (λ (l : List Anchor). getD l i (storeIn image .apex)) (sym anchors-are)
 
-    -- its own rights, by its content constraints
-    own-rights : constraintsRights (constraintsAt image i) ≡ rightsOf (getD (anchors σ) i (σ .apex) .info)
-    own-rights = value-rights _ ∙ ap (λ (a : Anchor). rightsOf (a .info)) anchor-at
+  pub number-at : numberIn (recordOf image i) ≡ numberAt (storeIn image) i
+  number-at = ap (λ (a : Anchor). a .number) anchor-at
 
-  -- what an anchor behind the apex may: the octets of its content constraints give it
-  pub rights-behind : (i : ℕ) → 0 < i → i < length (anchors σ) → constraintsRights (constraintsAt image i) ≡ rightsAt σ i
-  rights-behind zero z h = absurd (omega arith)
-  rights-behind (suc i) z h = own-rights (suc i) h ∙ sym (getD-made (λ a. rightsOf (a .info)) (σ .others) i (σ .apex) nothing (omega arith))
+  -- its own rights, by its content constraints
+  own-rights : constraintsRights (constraintsAt image i) ≡ rightsOf (getD (anchors (storeIn image)) i (storeIn image .apex) .info)
+  own-rights = value-rights _ ∙ ap (λ (a : Anchor). rightsOf (a .info)) anchor-at
 
-  pub rights-at : (i : ℕ) → i < length (anchors σ) → rightsOn image i ≡ rightsAt σ i
-  unfolding rightsOn
-  rights-at zero h = refl
-  rights-at (suc i) h = rights-behind (suc i) (omega arith) h
+pub rights-at : (image : List ℕ) (i : ℕ) → i < length (recordsOf image) → rightsOn image i ≡ rightsAt (storeIn image) i
+unfolding rightsOn
+rights-at image zero h = refl
+rights-at image (suc i) h =
+    let n = ap length (anchors-are image (suc i) h) ∙ length-map (recordsOf image) anchorOf in
+    own-rights image (suc i) h
+    ∙ sym (getD-made (λ a. rightsOf (a .info)) (storeIn image .others) i (storeIn image .apex) nothing (omega (arith, n)))

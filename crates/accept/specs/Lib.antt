@@ -1,2 +1,3 @@
 pub mod Signer
 pub mod Given
+pub mod Judged

@@ -1,12 +1,10 @@
 // Acceptance: the rows 10, 16, 38, 23, 11 and 21 of 01's table, that is signer, target, rights and number.
 ghost use mathlib.Core.Path.{_≡_};
-ghost use Prim.Native.Nat.{_<_};
-ghost use lib.ListN.{length};
-ghost use Rattle.store.specs.Store.{anchors};
 ghost use Rattle.store.specs.Parts.{numberIn};
-ghost use Rattle.protocol.specs.Acceptance.{targetFor, row-11, tooLow, row-21, refuse as refuseOf, weighed, judgement};
+ghost use Rattle.protocol.specs.Acceptance.{targetFor, row-11, tooLow, row-21, refuse as refuseOf, weighed};
 ghost use Rattle.accept.specs.Signer.{recordOf, constraintsAt, rightsOn};
-ghost use Rattle.accept.specs.Given.{OfStore, Asking};
+ghost use Rattle.accept.specs.Given.{Asking, AtRecord};
+ghost use Rattle.accept.specs.Judged.{storeIn, judgedIn};
 use envelope::Refusal;
 use message::Received;
 use message::Request;
@@ -39,7 +37,7 @@ fn record_of(image: &[u8], i: usize) -> &[u8]
 }
 
 // What the anchor at a position behind the apex may: the octets of its content constraints, as a part of the image.
-pub fn rights_at(image: &[u8], i: usize) -> &[u8]
+fn rights_at(image: &[u8], i: usize) -> &[u8]
     ensures { λ r. ⌜ now r ≡ constraintsAt (now (image .entry)) i ⌝ }
 {
     anchor::constraints_value(store::info_of(record_of(image, i)))
@@ -84,7 +82,7 @@ fn is_number_refused(image: &[u8], i: usize, s: &[u8], q: Request) -> bool
 
 // 38 and 23: whether the target names the device.
 fn target_for(image: &[u8], s: &[u8], q: Request) -> Target
-    ensures { λ r. ⌜ OfStore (now (image .entry)) (λ σ. r ≡ targetFor σ (now (s .entry)) q) ⌝ }
+    ensures { λ r. ⌜ r ≡ targetFor (storeIn (now (image .entry))) (now (s .entry)) q ⌝ }
 {
     message::judge_target(
         store::hw_type(image),
@@ -98,7 +96,7 @@ fn target_for(image: &[u8], s: &[u8], q: Request) -> Target
 // The rows behind 16, by the anchor at position i.
 fn weigh(s: &[u8], image: &[u8], q: Request, i: usize) -> Judgement
     ensures { λ r.
-        ⌜ Asking (now (s .entry)) q (OfStore (now (image .entry)) (λ σ. (i < length (anchors σ) → r ≡ weighed σ (now (s .entry)) q i))) ⌝ }
+        ⌜ Asking (now (s .entry)) q (AtRecord (now (image .entry)) i (r ≡ weighed (storeIn (now (image .entry))) (now (s .entry)) q i)) ⌝ }
 {
     match target_for(image, s, q) {
         Target::Unsupported => return refuse(q, Status::UNSUPPORTED_TARGET_IDENTIFIER),
@@ -114,9 +112,9 @@ fn weigh(s: &[u8], image: &[u8], q: Request, i: usize) -> Judgement
     Judgement::Accepts(q, i)
 }
 
-// What the rows decide of a message, on an image that breaks no rule.
+// What the rows decide of a message.
 pub fn judge(s: &[u8], image: &[u8], verdict: &[u8]) -> Judgement
-    ensures { λ r. ⌜ OfStore (now (image .entry)) (λ σ. r ≡ judgement σ (now (verdict .entry)) (now (s .entry))) ⌝ }
+    ensures { λ r. ⌜ r ≡ judgedIn (now (image .entry)) (now (verdict .entry)) (now (s .entry)) ⌝ }
 {
     match message::receive(s) {
         Received::Refused(r) => Judgement::Refuses(r),

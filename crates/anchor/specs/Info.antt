@@ -23,9 +23,6 @@ keyIdField t = field 0x04 t (root t)
 abbrev pub keyIdentifier : List ℕ → List ℕ
 keyIdentifier t = contents t (keyIdField t)
 
-unfoldable pub title : List ℕ → Element
-title t = field 0x0C t (root t)
-
 unfoldable pub certPath : List ℕ → Element
 certPath t = fieldBehind 0x30 t (root t) (keyIdField t)
 

@@ -14,12 +14,9 @@ ghost use Rattle.syntax.specs.Asn.{CMSContentConstraints};
 ghost use Rattle.syntax.specs.Forms.{formSyntax};
 ghost use Rattle.rights.specs.Constraints.{attrConstraint, contentTypeConstraint, constraintsRights};
 ghost use Rattle.anchor.specs.Info.{
-  version as versionOf,
   publicKey,
   keyIdField,
   keyIdentifier,
-  title as titleOf,
-  certPath,
   extnValue,
   isConstraints,
   constraintsIn,
@@ -134,13 +131,6 @@ fn root(t: &[u8]) -> Element
     der::element_at(t, 0, t.len())
 }
 
-// Absent where it is the default.
-pub fn version(t: &[u8]) -> Element
-    ensures { λ r. ⌜ r ≡ versionOf (now (t .entry)) ⌝ }
-{
-    der::field(t, root(t), 0x02)
-}
-
 // The SubjectPublicKeyInfo's octets.
 pub fn public_key(t: &[u8]) -> &[u8]
     ensures { λ r. ⌜ now r ≡ publicKey (now (t .entry)) ⌝ }
@@ -158,18 +148,6 @@ pub fn key_identifier(t: &[u8]) -> &[u8]
     ensures { λ r. ⌜ now r ≡ keyIdentifier (now (t .entry)) ⌝ }
 {
     der::contents(t, key_id_field(t))
-}
-
-pub fn title(t: &[u8]) -> Element
-    ensures { λ r. ⌜ r ≡ titleOf (now (t .entry)) ⌝ }
-{
-    der::field(t, root(t), 0x0C)
-}
-
-pub fn cert_path(t: &[u8]) -> Element
-    ensures { λ r. ⌜ r ≡ certPath (now (t .entry)) ⌝ }
-{
-    der::field_behind(t, root(t), key_id_field(t), 0x30)
 }
 
 // Extensions, in its explicit tag.

@@ -10,26 +10,30 @@ use Rattle.octets.specs.declared.Status.{Status}
 use Rattle.octets.specs.Status.{success, notAuthorized, insufficientMemory, improperTAAddition}
 use Rattle.octets.specs.First.{givenIf}
 use Rattle.octets.specs.Lists.{anyOf}
+use Rattle.octets.specs.Octets.{same}
 use Rattle.rights.specs.Rights.{Rights}
 use Rattle.rights.specs.Decision.{within}
 use Rattle.anchor.specs.Info.{publicKey, rightsOf}
 use Rattle.anchor.specs.Judge.{judge, statusOf as judgedStatus, passes}
-use Rattle.store.specs.declared.Sought.{Sought}
-use Rattle.store.specs.declared.Sought.the-variants.{PublicKey, Info}
+use Rattle.store.specs.declared.Position.{Position}
+use Rattle.store.specs.declared.Position.the-variants.{At, Nothing}
+use Rattle.store.specs.declared.Sought.the-variants.{PublicKey}
 use Rattle.store.specs.Store.{Anchor, Store, anchors}
 use Rattle.store.specs.Image.{wellFormed}
 use Rattle.store.specs.Records.{recordsOf}
-use Rattle.store.specs.Parts.{anchorCount, infoIn, isSought}
+use Rattle.store.specs.Parts.{anchorCount, infoIn, isSought, firstFrom}
 use Rattle.store.proofs.Formats.{rules, from-rules}
+use Rattle.store.proofs.Parts.{isAt, first-any}
 use Rattle.edit.specs.Steps.{withOthers, oneMore}
-use Rattle.protocol.specs.Update.{Step, unnumbered, unchanged, added}
-use Rattle.protocol.proofs.Lists.{anyOf-map}
+use Rattle.protocol.specs.Update.{Step, unnumbered, unchanged, added, hasKey}
 use Rattle.protocol.proofs.WellFormed.{GoodAnchors, good-added}
 use Rattle.apply.specs.declared.Applied.the-variants.{Done, Failed}
-use Rattle.apply.specs.Scratch.{Holds, Scratch, HoldsBoth}
+use Rattle.apply.specs.Scratch.{Holds, Scratch, HoldsBoth, infoAt}
 use Rattle.apply.specs.Edits.{Growable, Appends}
 use Rattle.apply.specs.Entry.{Applies, Conforming}
-use Rattle.apply.proofs.Held.{infos-are, counted}
+use Rattle.apply.proofs.Held.{search-is, info-is, counted}
+use Rattle.apply.proofs.Found.{first-at}
+use Rattle.apply.proofs.Stored.{octets-nowhere, octets-once}
 
 -- other anchors behind the apex, of which the rules for anchors hold
 pub with-anchors : (σ : Store) (l : List Anchor) → wellFormed σ ≡ true → GoodAnchors (σ .apex ∷ l) → wellFormed (withOthers l σ) ≡ true
@@ -91,51 +95,70 @@ module _ (rights : Rights) (t : List ℕ) where
         in-signer : within rights (rightsOf t) ≡ true
         in-signer = sym p ∙ q
 
-        -- what is stored is what the image has
-        among : (by : Sought) (wanted : List ℕ) (σ : Store) (old new : List Anchor) → Holds (withOthers (old ++ new) σ) d len → {a : Bool}
-            → a ≡ anyOf (isSought by wanted) (map infoIn (recordsOf (take len d))) → anyOf (λ b. isSought by wanted (b .info)) (σ .apex ∷ (old ++ new)) ≡ a
-        among by wanted σ old new h e =
-            sym (anyOf-map (isSought by wanted) (λ b. b .info) (σ .apex ∷ (old ++ new)))
-            ∙ ap (anyOf (isSought by wanted)) (sym (infos-are (withOthers (old ++ new) σ) d len h))
-            ∙ sym e
+        module _ {key : List ℕ} (public : key ≡ publicKey t) {found : Position}
+            (search : found ≡ firstFrom 0 (isSought PublicKey key) (map infoIn (recordsOf (take len d)))) where
+          found-in : (σ : Store) → Holds σ d len → firstFrom 0 (hasKey (publicKey t)) (anchors σ) ≡ found
+          unfolding isSought
+          found-in σ h = ap (λ (k : List ℕ). firstFrom 0 (hasKey k) (anchors σ)) (sym public) ∙ search-is σ d len h PublicKey key search
 
-        -- "0 with no change if the same octets are stored"
-        pub add-same : {k : ℕ} {a : Bool} → a ≡ anyOf (isSought Info t) (map infoIn (recordsOf (take len d))) → a ≡ true → Applies adding d len k (Done len k) d
-        unfolding added givenIf isSought
-        add-same e y =
-            record {
-              room = refl;
-              does = λ σ old new h.
-                  let f : adding (σ .apex) old new ≡ unchanged success old new = rw (pass, in-signer, among Info t σ old new (h .holds) e ∙ y) in
-                  rw f (record { status = refl; after = h });
-            }
+          key-stored : (σ : Store) → Holds σ d len → anyOf (hasKey (publicKey t)) (anchors σ) ≡ isAt found
+          key-stored σ h = sym (first-any (hasKey (publicKey t)) 0 (anchors σ)) ∙ ap isAt (found-in σ h)
 
-        module _ {a : Bool} (e₁ : a ≡ anyOf (isSought Info t) (map infoIn (recordsOf (take len d)))) (n₁ : a ≡ false) where
-          -- "20 if the public key is stored otherwise"
-          pub add-key : {k : ℕ} {key : List ℕ} → key ≡ publicKey t → {a : Bool} → a ≡ anyOf (isSought PublicKey key) (map infoIn (recordsOf (take len d))) → a ≡ true
-              → Applies adding d len k (Failed improperTAAddition) d
-          unfolding added givenIf isSought
-          add-key q e y =
-              unmoved adding (λ σ old new h.
-              rw (pass, in-signer, among Info t σ old new (h .holds) e₁ ∙ n₁, ← q, among PublicKey _ σ old new (h .holds) e ∙ y))
+          module _ {j : ℕ} (there : found ≡ At j) {s : List ℕ} (info : s ≡ infoAt (take len d) j) {a : Bool} (equal : a ≡ same s t) where
+            -- the anchor found is the only one that can have t's octets
+            octets-stored : (σ : Store) → Holds σ d len → anyOf (λ b. same (b .info) t) (anchors σ) ≡ a
+            octets-stored σ h =
+                let (k, y, f) = first-at (hasKey (publicKey t)) 0 j (anchors σ) (found-in σ h ∙ there) in
+                let l : j ≡ length (f .before) = omega (arith, y, f .place) in
+                let here : s ≡ f .here .info = info ∙ ap (infoAt (take len d)) l ∙ info-is σ d len h (f .before) (f .behind) (f .here) (f .parts) in
+                octets-once t (anchors σ) f (good-anchors σ (h .good) .keys)
+                ∙ ap (λ (o : List ℕ). same o t) (sym here)
+                ∙ sym equal
 
-          module _ {key : List ℕ} (q₂ : key ≡ publicKey t) {a₂ : Bool} (e₂ : a₂ ≡ anyOf (isSought PublicKey key) (map infoIn (recordsOf (take len d)))) (n₂ : a₂ ≡ false) where
+            -- "0 with no change if the same octets are stored"
+            pub add-same : {k : ℕ} → a ≡ true → Applies adding d len k (Done len k) d
+            unfolding added givenIf
+            add-same y =
+                record {
+                  room = refl;
+                  does = λ σ old new h.
+                      let f : adding (σ .apex) old new ≡ unchanged success old new = rw (pass, in-signer, octets-stored (withOthers (old ++ new) σ) (h .holds) ∙ y) in
+                      rw f (record { status = refl; after = h });
+                }
+
+            -- "20 if the public key is stored otherwise"
+            pub add-key : {k : ℕ} → a ≡ false → Applies adding d len k (Failed improperTAAddition) d
+            unfolding added givenIf
+            add-key y =
+                unmoved adding (λ σ old new h.
+                let τ = withOthers (old ++ new) σ in
+                rw (pass, in-signer, octets-stored τ (h .holds) ∙ y, key-stored τ (h .holds) ∙ ap isAt there))
+
+          module _ (nowhere : found ≡ Nothing) where
+            no-key : (σ : Store) → Holds σ d len → anyOf (hasKey (publicKey t)) (anchors σ) ≡ false
+            no-key σ h = key-stored σ h ∙ ap isAt nowhere
+
+            no-octets : (σ : Store) → Holds σ d len → anyOf (λ b. same (b .info) t) (anchors σ) ≡ false
+            no-octets σ h = octets-nowhere t (anchors σ) (no-key σ h)
+
             -- "17 at 32 anchors"
             pub add-full : {k n : ℕ} → n ≡ anchorCount (take len d) → 32 ≤ n → Applies adding d len k (Failed insufficientMemory) d
-            unfolding added givenIf isSought
+            unfolding added givenIf
             add-full c y =
                 unmoved adding (λ σ old new h.
-                let l : 32 ≤ length (σ .apex ∷ (old ++ new)) = omega (arith, c, counted (withOthers (old ++ new) σ) d len (h .holds)) in
-                rw (pass, in-signer, among Info t σ old new (h .holds) e₁ ∙ n₁, ← q₂, among PublicKey _ σ old new (h .holds) e₂ ∙ n₂, le-leb 32 (length (σ .apex ∷ (old ++ new))) l))
+                let τ = withOthers (old ++ new) σ in
+                let l : 32 ≤ length (anchors τ) = omega (arith, c, counted τ d len (h .holds)) in
+                rw (pass, in-signer, no-octets τ (h .holds), no-key τ (h .holds), le-leb 32 (length (anchors τ)) l))
 
             module _ {n : ℕ} (c : n ≡ anchorCount (take len d)) (room : n < 32) (conforming : Conforming t) where
               -- "else appended without a number, 0"
               appended : (σ : Store) (old new : List Anchor) → Holds (withOthers (old ++ new) σ) d len
                   → adding (σ .apex) old new ≡ record { status = success; old = old; new = new ++ (unnumbered t ∷ []) }
-              unfolding added givenIf isSought
+              unfolding added givenIf
               appended σ old new h =
-                  let l : length (σ .apex ∷ (old ++ new)) < 32 = omega (arith, c, counted (withOthers (old ++ new) σ) d len h) in
-                  rw (pass, in-signer, among Info t σ old new h e₁ ∙ n₁, ← q₂, among PublicKey _ σ old new h e₂ ∙ n₂, lt-leb 32 (length (σ .apex ∷ (old ++ new))) l)
+                  let τ = withOthers (old ++ new) σ in
+                  let l : length (anchors τ) < 32 = omega (arith, c, counted τ d len h) in
+                  rw (pass, in-signer, no-octets τ h, no-key τ h, lt-leb 32 (length (anchors τ)) l)
 
               fits : (σ : Store) (old new : List Anchor) → Holds (withOthers (old ++ new) σ) d len → wellFormed (oneMore t (withOthers (old ++ new) σ)) ≡ true
               fits σ old new h =

@@ -92,7 +92,7 @@ module _ {A : Type 0} (p : A → Bool) where
   any-here [] y a t = rw t
   any-here (b ∷ x) y a t = by-test (p b) (λ u. rw u) (λ u. rw u (any-here x y a t))
 
-  any-less : (q : A → Bool) (l : List A) → anyOf p l ≡ false → anyOf (λ b. p b && q b) l ≡ false
+  pub any-less : (q : A → Bool) (l : List A) → anyOf p l ≡ false → anyOf (λ b. p b && q b) l ≡ false
   unfolding anyOf
   any-less q [] e = refl
   any-less q (b ∷ l) e =

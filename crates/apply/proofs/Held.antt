@@ -6,10 +6,12 @@ use mathlib.Core.Path.{_≡_, sym, ap, ap₂, _∙_}
 use lib.ListN.{length, take, drop, getD, length-append}
 use lib.Seq.{split-at, length-take-le}
 use Rattle.octets.specs.Octets.{octet}
+use Rattle.store.specs.declared.Position.{Position}
+use Rattle.store.specs.declared.Sought.{Sought}
 use Rattle.store.specs.Store.{Anchor, Store, anchors}
 use Rattle.store.specs.Image.{encode}
 use Rattle.store.specs.Records.{recordsOf}
-use Rattle.store.specs.Parts.{anchorCount, firstRecord, recordEnd, recordPlace, infoIn, communityPlace}
+use Rattle.store.specs.Parts.{anchorCount, firstRecord, recordEnd, recordPlace, infoIn, communityPlace, isSought, firstFrom}
 use Rattle.store.proofs.Formats.{rules}
 use Rattle.edit.specs.Places.{countAt, placeOf, endOf}
 use Rattle.edit.specs.Edits.{inserted, removed, newRecord}
@@ -18,6 +20,7 @@ use Rattle.edit.proofs.Anchors.{append-anchor-law, append-anchor-fits, remove-a
 use Rattle.apply.specs.Scratch.{Holds, infoAt}
 use Rattle.apply.specs.Edits.{Growable, Appends, Cuttable, Cuts}
 use Rattle.apply.proofs.Image as image
+use Rattle.apply.proofs.Found.{first-map}
 
 module _ (σ : Store) (d : List ℕ) (len : ℕ) (h : Holds σ d len) where
   pub size : length (encode σ) ≡ len
@@ -43,6 +46,14 @@ module _ (σ : Store) (d : List ℕ) (len : ℕ) (h : Holds σ d len) where
 
   pub infos-are : map infoIn (recordsOf (take len d)) ≡ map (λ a. a .info) (anchors σ)
   infos-are = ap (λ (s : List ℕ). map infoIn (recordsOf s)) (h .image) ∙ image.infos-are σ (h .good)
+
+  -- a search in the image is the search in its store
+  pub search-is : (by : Sought) (wanted : List ℕ) {p : Position} → p ≡ firstFrom 0 (isSought by wanted) (map infoIn (recordsOf (take len d)))
+      → firstFrom 0 (λ a. isSought by wanted (a .info)) (anchors σ) ≡ p
+  search-is by wanted f =
+      sym (first-map (λ a. a .info) (isSought by wanted) 0 (anchors σ))
+      ∙ ap (firstFrom 0 (isSought by wanted)) (sym infos-are)
+      ∙ sym f
 
   pub place-is : (i : ℕ) → i ≤ length (anchors σ) → recordPlace (take len d) (firstRecord (take len d)) i ≡ placeOf σ i
   place-is i l = ap (λ (s : List ℕ). recordPlace s (firstRecord s) i) (h .image) ∙ image.record-place σ (h .good) i l

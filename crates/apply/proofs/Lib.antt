@@ -1,8 +1,9 @@
 pub mod Edits
 pub mod Image
+pub mod Found
+pub mod Stored
 pub mod Held
 pub mod Adds
-pub mod Found
 pub mod Removes
 pub mod Entries
 pub mod Runs

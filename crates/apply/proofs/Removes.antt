@@ -2,7 +2,7 @@
 use Prim.Native.Nat.{ℕ, suc, _+_, _≤_, _<_}
 use native.Mathlib.Omega.{arith}
 use mathlib.Core.Bool.{Bool, true, false, not, _&&_}
-use mathlib.Core.List.{List, [], _∷_, _++_, map}
+use mathlib.Core.List.{List, _∷_, _++_, map}
 use mathlib.Core.Path.{_≡_, refl, sym, ap, _∙_}
 use lib.ListN.{length, take, length-append}
 use lib.Dec.{leb}
@@ -10,8 +10,7 @@ use borrow.Author.Tests.{leb-true, leb-false}
 use Rattle.octets.specs.Status.{success, notAuthorized, apexTAMPAnchor, trustAnchorNotFound}
 use Rattle.octets.specs.First.{givenIf}
 use Rattle.octets.specs.Lists.{anyOf, keep}
-use Rattle.octets.specs.Octets.{same, member, distinct}
-use Rattle.octets.proofs.Lists.{by-test, neither, same→≡, same-sym}
+use Rattle.octets.proofs.Lists.{by-test}
 use Rattle.rights.specs.Rights.{Rights}
 use Rattle.rights.specs.Decision.{within}
 use Rattle.anchor.specs.Info.{rightsOf}
@@ -30,21 +29,10 @@ use Rattle.apply.specs.declared.Applied.the-variants.{Done, Failed}
 use Rattle.apply.specs.Scratch.{Holds, Scratch, infoAt}
 use Rattle.apply.specs.Edits.{Cuttable, Cuts}
 use Rattle.apply.specs.Entry.{Applies, untagged}
-use Rattle.apply.proofs.Held.{infos-are, info-is}
-use Rattle.apply.proofs.Found.{First, first-map, head-found, later-found, any-one, keep-rest, kept-front}
+use Rattle.apply.proofs.Held.{search-is, info-is}
+use Rattle.apply.proofs.Found.{First, head-found, later-found, any-one, keep-rest, kept-front}
+use Rattle.apply.proofs.Stored.{key-once}
 use Rattle.apply.proofs.Adds.{with-anchors, good-anchors, unmoved}
-
--- public keys differ pairwise, so a key is found once
-none-has : (key : List ℕ) (l : List Anchor) → member key (map keyOf l) ≡ false → anyOf (hasKey key) l ≡ false
-unfolding member anyOf
-none-has key [] e = refl
-none-has key (b ∷ l) e =
-    let h = neither (same key (keyOf b)) (anyOf (same key) (map keyOf l)) e in
-    rw (same-sym (keyOf b) key ∙ h .0) (none-has key l (h .1))
-
-key-once : (key : List ℕ) (x y : List Anchor) (a : Anchor) → hasKey key a ≡ true → distinct (map keyOf (x ++ (a ∷ y))) ≡ true → anyOf (hasKey key) y ≡ false
-key-once key [] y a t d = none-has key y (rw (same→≡ (keyOf a) key t) at (distinct-parts (keyOf a) (map keyOf y) d .0))
-key-once key (b ∷ x) y a t d = key-once key x y a t (distinct-parts (keyOf b) (map keyOf (x ++ (a ∷ y))) d .1)
 
 module _ (rights : Rights) (wanted : List ℕ) where
   abbrev removing : Anchor → List Anchor → List Anchor → Step
@@ -54,13 +42,9 @@ module _ (rights : Rights) (wanted : List ℕ) where
   wantedIn = hasKey (untagged wanted)
 
   module _ (d : List ℕ) (len : ℕ) {p : Position} (f : p ≡ firstFrom 0 (isSought TaggedPublicKey wanted) (map infoIn (recordsOf (take len d)))) where
-    -- the search in the image is the search in its store
     found-in : (σ : Store) → Holds σ d len → firstFrom 0 wantedIn (anchors σ) ≡ p
     unfolding isSought
-    found-in σ h =
-        sym (first-map (λ a. a .info) (isSought TaggedPublicKey wanted) 0 (anchors σ))
-        ∙ ap (firstFrom 0 (isSought TaggedPublicKey wanted)) (sym (infos-are σ d len h))
-        ∙ sym f
+    found-in σ h = search-is σ d len h TaggedPublicKey wanted f
 
     -- 25
     pub remove-none : {k : ℕ} → p ≡ Nothing → Applies removing d len k (Failed trustAnchorNotFound) d
@@ -108,7 +92,7 @@ module _ (rights : Rights) (wanted : List ℕ) where
               k = k;
               place = q;
               first = f;
-              alone = key-once (untagged wanted) (f .before) (f .behind) (f .here) (f .passes) (ap (λ (r : List Anchor). distinct (map keyOf r)) (sym (f .parts)) ∙ keys);
+              alone = key-once (untagged wanted) (σ .others) f keys;
               info = ap (infoAt (take len d)) s ∙ info-is σ d len h x (f .behind) (f .here) (ap (λ (r : List Anchor). σ .apex ∷ r) (f .parts));
             }
 

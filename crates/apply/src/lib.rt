@@ -18,8 +18,7 @@ ghost use Rattle.octets.specs.Lists.{anyOf, keep};
 ghost use Rattle.rights.specs.Decision.{within};
 ghost use Rattle.anchor.specs.Info.{rightsOf};
 ghost use Rattle.anchor.specs.Judge.{statusOf as judgedStatus, judge};
-ghost use Rattle.store.specs.Records.{recordsOf};
-ghost use Rattle.store.specs.Parts.{infoIn, communitiesOf, isSought};
+ghost use Rattle.store.specs.Parts.{communitiesOf};
 ghost use Rattle.message.specs.Fields.{entryOf, seqNumbersIn};
 ghost use Rattle.protocol.specs.Update.{added, removed, step as stepOf, stamped, allStamped};
 ghost use Rattle.apply.specs.Scratch.{Scratch, ScratchBoth, infoAt, signerRights};
@@ -91,16 +90,6 @@ fn judged(t: &[u8]) -> Status
     anchor::status(anchor::judge(t))
 }
 
-// Some anchor of the image is the one that is sought.
-fn is_stored(image: &[u8], by: Sought, wanted: &[u8]) -> bool
-    ensures { λ r. ⌜ r ≡ anyOf (isSought by (now (wanted .entry))) (map infoIn (recordsOf (now (image .entry)))) ⌝ }
-{
-    if let Position::At(_) = store::find(image, by, wanted) {
-        return true;
-    }
-    false
-}
-
 // Appends an anchor without a number. Gives the new length.
 fn append(work: &mut [u8], len: usize, t: &[u8]) -> usize
     requires { ⌜ Growable (now work) len (now t) ⌝ }
@@ -141,10 +130,11 @@ fn add(image: &[u8], i: usize, work: &mut [u8], len: usize, old: usize, t: &[u8]
     if !is_within_signer(image, i, t) {
         return Applied::Failed(Status::NOT_AUTHORIZED);
     }
-    if is_stored(&work[..len], Sought::Info, t) {
-        return Applied::Done(len, old);
-    }
-    if is_stored(&work[..len], Sought::PublicKey, anchor::public_key(t)) {
+    // no two public keys of a store are equal, so no other anchor can have the same octets
+    if let Position::At(p) = store::find(&work[..len], Sought::PublicKey, anchor::public_key(t)) {
+        if octets::equal(info_at(&work[..len], p), t) {
+            return Applied::Done(len, old);
+        }
         return Applied::Failed(Status::IMPROPER_TA_ADDITION);
     }
     if 32 <= store::anchor_count(&work[..len]) {

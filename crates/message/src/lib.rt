@@ -1,14 +1,12 @@
 // The four TAMP messages (RFC 5934): rows 36, 31 and 127 of 01's table, the target, and what a message asks.
 ghost use mathlib.Core.Path.{_≡_};
 ghost use Prim.Native.Nat.{_+_, _≤_, min};
-ghost use lib.Dec.{ltb};
 ghost use lib.ListN.{length, take};
-ghost use Rattle.octets.specs.Limits.{maxUpdates};
 ghost use Rattle.octets.specs.Lists.{anyOf};
 ghost use Rattle.octets.specs.Octets.{member};
 ghost use Rattle.octets.specs.Number.{number};
 ghost use Rattle.der.specs.Element.{whole as wholeOf, contents as contentsOf, inside};
-ghost use Rattle.message.specs.Fields.{targetIn, updatesIn, entryOf, entriesIn};
+ghost use Rattle.message.specs.Fields.{targetIn, updatesIn, entryOf};
 ghost use Rattle.message.specs.Rows.{row-36, row-127, asksForm, unwrapped, received};
 ghost use Rattle.message.specs.Names.{namesIn};
 ghost use Rattle.message.specs.Target.{blockNames, entryNames, moduleNames, names, targetOf};
@@ -20,9 +18,6 @@ use envelope::Signed;
 use octets::Status;
 use syntax::Form;
 use syntax::TampType;
-
-// 01, After acceptance: "1 to 16 entries".
-const MAX_UPDATES: usize = 16;
 
 // What a message asks that passes the rows up to 127, as parts of it.
 pub struct Request {
@@ -218,13 +213,6 @@ pub fn count(s: &[u8], e: Element) -> usize
         at = m.stop;
     }
     n
-}
-
-// 01, After acceptance: an Update with over 16 entries.
-pub fn has_too_many(s: &[u8], body: Element, msgref: Element) -> bool
-    ensures { λ r. ⌜ r ≡ ltb maxUpdates (length (entriesIn (now (s .entry)) body msgref)) ⌝ }
-{
-    MAX_UPDATES < count(s, updates_in(s, body, msgref))
 }
 
 // "a block whose low and high have the serial's length and bound it as big-endian numbers, ends included"

@@ -42,7 +42,7 @@ computed-rights = tt
 
 unfoldable computed-anchor : Unit {0}
 unfolding
-    Rattle.anchor.specs.Info.version Rattle.anchor.specs.Info.publicKey Rattle.anchor.specs.Info.keyIdField Rattle.anchor.specs.Info.title
+    Rattle.anchor.specs.Info.version Rattle.anchor.specs.Info.publicKey Rattle.anchor.specs.Info.keyIdField
     Rattle.anchor.specs.Info.certPath Rattle.anchor.specs.Info.extensions Rattle.anchor.specs.Info.constraintsIn
     Rattle.anchor.specs.Info.constraintsExtension Rattle.anchor.specs.Info.rightsOf Rattle.anchor.specs.Judge.statusOf
     Rattle.anchor.specs.Judge.conforms Rattle.anchor.specs.Judge.repeatedExtension Rattle.anchor.specs.Judge.criticalExtension

@@ -159,7 +159,7 @@ module _ (image : List ℕ) (σ : Store) (e : decode image ≡ some σ) where
 
 -- counts
 
-records-count : (n : ℕ) (s : List ℕ) → length (recordsFrom n s) ≡ n
+pub records-count : (n : ℕ) (s : List ℕ) → length (recordsFrom n s) ≡ n
 unfolding recordsFrom
 records-count zero s = refl
 records-count (suc n) s = ap suc (records-count n (drop (11 + number (part s 9 11)) s))

@@ -10,7 +10,7 @@ use Rattle.anchor.specs.Info.{publicKey, keyIdentifier}
 use Rattle.store.specs.declared.Number.{Number}
 use Rattle.store.specs.declared.Number.the-variants.{Absent, Is}
 use Rattle.store.specs.declared.Sought.{Sought}
-use Rattle.store.specs.declared.Sought.the-variants.{PublicKey, TaggedPublicKey, Info}
+use Rattle.store.specs.declared.Sought.the-variants.{PublicKey, TaggedPublicKey}
 use Rattle.store.specs.declared.Position.{Position}
 use Rattle.store.specs.declared.Position.the-variants.{At, Nothing}
 use Rattle.store.specs.Image.{presentNumber}
@@ -98,11 +98,10 @@ communitiesOf image = namesFrom (communityCount image) (communityOctets image)
 
 -- Searches
 
--- what a TrustAnchorInfo is sought by: its public key, its public key where a message tags it otherwise ("the first read as 30"), or its octets
+-- what a TrustAnchorInfo is sought by: its public key, or its public key where a message tags it otherwise ("the first read as 30")
 unfoldable pub isSought : Sought → List ℕ → List ℕ → Bool
 isSought PublicKey wanted info = same (publicKey info) wanted
 isSought TaggedPublicKey wanted info = same (publicKey info) (0x30 ∷ drop 1 wanted)
-isSought Info wanted info = same info wanted
 
 module _ {A : Type 0} where
   -- the position of the first member that passes, where the first has position i

@@ -53,8 +53,6 @@ pub enum Sought {
     PublicKey,
     // a public key as a message tags it: its first octet is read as 30
     TaggedPublicKey,
-    // all octets of the TrustAnchorInfo
-    Info,
 }
 
 // The position of what is sought.
@@ -248,7 +246,6 @@ fn is_sought(info: &[u8], by: Sought, wanted: &[u8]) -> bool
     match by {
         Sought::PublicKey => octets::equal(anchor::public_key(info), wanted),
         Sought::TaggedPublicKey => is_tagged(anchor::public_key(info), wanted),
-        Sought::Info => octets::equal(info, wanted),
     }
 }
 

@@ -8,7 +8,7 @@ use lib.ListN.{length}
 use lib.Dec.{leb, eqb}
 use borrow.Author.Tests.{leb-true, eqb-true, eqb-false}
 use Rattle.octets.proofs.Lists.{by-test}
-use Rattle.der.specs.declared.Fit.{Fit}
+use Rattle.der.specs.declared.Fit.the-variants.{Fits}
 use Rattle.syntax.specs.Grammar.{Syntax, free, fit}
 use Rattle.syntax.specs.Table.{count, rows}
 use Rattle.syntax.specs.Rows.{kindOf, argumentOf, bodyOf, nextOf, rowSyntax, grown, grammarOf}
@@ -51,22 +51,27 @@ unfolding rows
 first-free zero h = absurd (h refl)
 first-free (suc row) h = omega arith
 
--- in the table as the code has it
-module _ {table : List ℕ} (p : table ≡ rows) (row : ℕ) (l : row < count) {kind : ℕ} (k : kind ≡ kindOf table row) (h : kind ≡ 0 → ⊥) where
+-- a row of the table as the code has it, whose kind has been read
+pub record Row (table : List ℕ) (row kind : ℕ) : Type 0 where
+  pub table-is : table ≡ rows
+  pub inside : row < count
+  pub kind-is : kind ≡ kindOf table row
+
+module _ {table : List ℕ} {row kind : ℕ} (r : Row table row kind) (h : kind ≡ 0 → ⊥) where
   some-above : 0 < row
-  some-above = first-free row (λ z. h (k ∙ ap (λ (t : List ℕ). kindOf t row) p ∙ z))
+  some-above = first-free row (λ z. h (r .kind-is ∙ ap (λ (t : List ℕ). kindOf t row) (r .table-is) ∙ z))
 
   pub lower-body : {body : ℕ} → body ≡ bodyOf table row → body < row
   lower-body b =
-      let a = above row l .body in
+      let a = above row (r .inside) .body in
       let f = some-above in
-      rw (b, p) (omega arith)
+      rw (b, r .table-is) (omega arith)
 
   pub lower-next : {next : ℕ} → next ≡ nextOf table row → next < row
   lower-next n =
-      let a = above row l .next in
+      let a = above row (r .inside) .next in
       let f = some-above in
-      rw (n, p) (omega arith)
+      rw (n, r .table-is) (omega arith)
 
 -- more fuel changes nothing
 
@@ -101,12 +106,12 @@ row-is o (suc n) l =
     (enough n (bodyOf rows (suc n)) o (bodyOf rows (suc n)) (omega (arith, a .body)) (omega arith) (omega (arith, a .body)))
     (enough n (nextOf rows (suc n)) o (nextOf rows (suc n)) (omega (arith, a .next)) (omega arith) (omega (arith, a .next)))
 
--- an answer for what the row's kind makes of the rows that it names is the answer for the row
-module _ {table : List ℕ} (p : table ≡ rows) (o : List ℕ) (row : ℕ) (l : row < count) {kind n body next : ℕ}
-    (k : kind ≡ kindOf table row) (a : n ≡ argumentOf table row) (b : body ≡ bodyOf table row) (m : next ≡ nextOf table row) where
-  row-in : grammarOf o row ≡ rowSyntax kind n o (grammarOf o body) (grammarOf o next)
-  row-in = rw (k, a, b, m, p) (row-is o row l)
+-- what a row stands for is what its kind makes of the rows that it names
+pub stands : {table : List ℕ} {row kind : ℕ} → Row table row kind → (o : List ℕ)
+    → grammarOf o row ≡ rowSyntax kind (argumentOf table row) o (grammarOf o (bodyOf table row)) (grammarOf o (nextOf table row))
+stands {row = row} r o = rw (r .kind-is, r .table-is) (row-is o row (r .inside))
 
-  pub stands : {r : Fit} (s : List ℕ) (at stop outer : ℕ)
-      → r ≡ fit (rowSyntax kind n o (grammarOf o body) (grammarOf o next)) s at stop outer → r ≡ fit (grammarOf o row) s at stop outer
-  stands s at stop outer h = h ∙ ap (λ (g : Syntax). fit g s at stop outer) (sym row-in)
+-- the first row is free
+pub first-fits : (o : List ℕ) (row : ℕ) → row ≡ 0 → (s : List ℕ) (at stop outer : ℕ) → fit (grammarOf o row) s at stop outer ≡ Fits
+unfolding grown fit
+first-fits o row z s at stop outer = ap (λ (r : ℕ). fit (grammarOf o r) s at stop outer) z

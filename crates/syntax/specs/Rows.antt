@@ -1,10 +1,14 @@
 -- What a row of the matcher's table stands for. A row is four octets: kind, tag or argument, body's row, next row.
 use Prim.Native.Nat.{ℕ, zero, suc, _+_, _-_, _*_}
-use mathlib.Core.Bool.{true, false}
+use mathlib.Core.Bool.{Bool, true, false, _&&_, _||_}
 use mathlib.Core.List.{List, [], _∷_}
 use lib.ListN.{getD}
-use lib.Dec.{ltb}
+use lib.Dec.{ltb, leb, eqb}
 use Rattle.octets.specs.Octets.{octet}
+use Rattle.der.specs.declared.Fit.{Fit}
+use Rattle.der.specs.declared.Fit.the-variants.{Fits, Breaks}
+use Rattle.syntax.specs.declared.Field.{Field}
+use Rattle.syntax.specs.declared.Field.the-variants as field
 use Rattle.syntax.specs.Grammar.{Rule, notEmpty, sizeTo, empty, equals, integerBut, seqNumber}
 use Rattle.syntax.specs.Grammar.{Syntax, free, end, obeys, optional, one, anyOptional, many, required}
 use Rattle.syntax.specs.Table.{rows}
@@ -47,3 +51,21 @@ grown (suc f) o (suc n) =
 -- what a row stands for, where the caller gives the octets o
 abbrev pub grammarOf : List ℕ → ℕ → Syntax
 grammarOf o row = grown row o row
+
+-- the kinds of a field: optional, required, one, anyOptional. The next row says what stands behind the field
+unfoldable pub isField : ℕ → Bool
+isField kind = leb 2 kind && ltb kind 6
+
+-- a field, and then the rest of the window from where it goes on
+unfoldable pub thenBehind : Field → (ℕ → Fit) → Fit
+thenBehind (field.Behind i) rest = rest i
+thenBehind (field.Breaks o) rest = Breaks o
+
+-- a field that is not there: of kind required or one it is a break, charged to an element; else the window goes on at its place
+unfoldable pub leftOut : ℕ → ℕ → ℕ → Field
+leftOut kind at charged = elim (eqb kind 3 || eqb kind 4) [ true ↦ field.Breaks charged | false ↦ field.Behind at ]
+
+-- a field that is there, up to stop: it breaks where its contents do
+unfoldable pub byContents : Fit → ℕ → Field
+byContents Fits stop = field.Behind stop
+byContents (Breaks o) stop = field.Breaks o

@@ -1,5 +1,6 @@
 // The ASN.1 of RFC 5652, 5934, 5914, 5280 and 6010 as data, and matching against it.
 ghost use mathlib.Core.Path.{_≡_};
+ghost use mathlib.Core.Bool.{true, false};
 ghost use mathlib.Core.List.{[], _∷_};
 ghost use Prim.Native.Nat.{_<_};
 ghost use Rattle.octets.specs.Octets.{same, part as partOf};
@@ -9,7 +10,7 @@ ghost use Rattle.syntax.specs.Types.{recognised};
 ghost use Rattle.syntax.specs.TypeTable.{typeTable, typeAt};
 ghost use Rattle.syntax.specs.Forms.{formSyntax, attributeSyntax};
 ghost use Rattle.syntax.specs.Table.{count, rows, messageRow, formRow, attributeRow};
-ghost use Rattle.syntax.specs.Rows.{column as columnOf, ruleOf, grammarOf};
+ghost use Rattle.syntax.specs.Rows.{column as columnOf, kindOf, nextOf, ruleOf, grammarOf, isField, thenBehind, leftOut, byContents};
 use der::Fit;
 
 mod table;
@@ -40,6 +41,12 @@ pub enum Form {
     Message(TampType),
 }
 
+// Where the window goes on behind a field, or the element that breaks it.
+enum Field {
+    Behind(usize),
+    Breaks(usize),
+}
+
 // An Attribute, by its type.
 pub enum AttributeForm {
     ContentType,
@@ -51,6 +58,8 @@ pub enum AttributeForm {
 const FREE: usize = 0;
 
 const END: usize = 1;
+
+const OPTIONAL: usize = 2;
 
 const REQUIRED: usize = 3;
 
@@ -73,6 +82,9 @@ const EQUALS_GIVEN: usize = 4;
 const INTEGER_BUT: usize = 5;
 
 const SEQ_NUMBER: usize = 6;
+
+// The first row is free.
+const FREE_ROW: usize = 0;
 
 // RFC 5652: id-signedData.
 const ID_SIGNED_DATA: [u8; 9] = [0x2A, 0x86, 0x48, 0x86, 0xF7, 0x0D, 0x01, 0x07, 0x02];
@@ -204,7 +216,138 @@ fn column(table: &[u8], row: usize, i: usize) -> usize
     wide(table[4 * row + i])
 }
 
-// Whether the window is as a row of the table says. The octets `given` are those that a rule compares with.
+// A row of a field: it names the row of what stands behind the field.
+fn is_field(kind: usize) -> bool
+    ensures { λ r. ⌜ r ≡ isField kind ⌝ }
+{
+    if kind < OPTIONAL {
+        return false;
+    }
+    kind < MANY
+}
+
+// A field that is not there: the element charged breaks, unless the field may be left out.
+fn left_out(kind: usize, at: usize, charged: usize) -> Field
+    ensures { λ r. ⌜ r ≡ leftOut kind at charged ⌝ }
+{
+    if kind == REQUIRED {
+        return Field::Breaks(charged);
+    }
+    if kind == ONE {
+        return Field::Breaks(charged);
+    }
+    Field::Behind(at)
+}
+
+// A field that is there, up to stop: it breaks where its contents do.
+fn by_contents(contents: Fit, stop: usize) -> Field
+    ensures { λ r. ⌜ r ≡ byContents contents stop ⌝ }
+{
+    if let Fit::Breaks(o) = contents {
+        return Field::Breaks(o);
+    }
+    Field::Behind(stop)
+}
+
+// As fit_row, with no call where the row is free: most bodies are.
+fn fit_body(
+    table: &[u8],
+    given: &[u8],
+    row: usize,
+    s: &[u8],
+    at: usize,
+    stop: usize,
+    outer: usize,
+) -> Fit
+    requires { ⌜ (now table ≡ rows) × (row < count) ⌝ }
+    ensures { λ r. ⌜ r ≡ fit (grammarOf (now (given .entry)) row) (now (s .entry)) at stop outer ⌝ }
+{
+    if row == FREE_ROW {
+        return Fit::Fits;
+    }
+    fit_row(table, given, row, s, at, stop, outer)
+}
+
+// The field at a place of the window, by its row.
+fn fit_field(
+    table: &[u8],
+    given: &[u8],
+    row: usize,
+    s: &[u8],
+    at: usize,
+    stop: usize,
+    outer: usize,
+) -> Field
+    requires { ⌜ (now table ≡ rows) × ((row < count) × (isField (kindOf (now table) row) ≡ true)) ⌝ }
+    ensures { λ r.
+        ⌜
+        fit (grammarOf (now (given .entry)) row) (now (s .entry)) at stop outer
+        ≡ thenBehind r (λ i. fit (grammarOf (now (given .entry)) (nextOf (now (table .entry)) row)) (now (s .entry)) i stop outer)
+        ⌝ }
+{
+    let kind = column(table, row, 0);
+    if stop <= at {
+        return left_out(kind, at, outer);
+    }
+    let e = der::element_at(s, at, stop);
+    if !e.good {
+        return Field::Breaks(at);
+    }
+    if kind == ANY_OPTIONAL {
+        return Field::Behind(e.stop);
+    }
+    let body = column(table, row, 2);
+    if kind == ONE {
+        return by_contents(fit_body(table, given, body, s, at, e.stop, outer), e.stop);
+    }
+    if wide(e.tag) != column(table, row, 1) {
+        return left_out(kind, at, at);
+    }
+    by_contents(fit_body(table, given, body, s, e.start, e.stop, at), e.stop)
+}
+
+// The window by a row that is no field's: its end, each element of it, or a rule of it as a whole.
+fn fit_rest(
+    table: &[u8],
+    given: &[u8],
+    row: usize,
+    s: &[u8],
+    at: usize,
+    stop: usize,
+    outer: usize,
+) -> Fit
+    requires { ⌜ (now table ≡ rows) × ((row < count) × (isField (kindOf (now table) row) ≡ false)) ⌝ }
+    ensures { λ r. ⌜ r ≡ fit (grammarOf (now (given .entry)) row) (now (s .entry)) at stop outer ⌝ }
+{
+    let kind = column(table, row, 0);
+    if kind == FREE {
+        return Fit::Fits;
+    }
+    if kind == END {
+        if stop <= at {
+            return Fit::Fits;
+        }
+        return Fit::Breaks(at);
+    }
+    let body = column(table, row, 2);
+    if kind == MANY {
+        return fit_each(table, given, body, s, at, stop, outer);
+    }
+    if let Fit::Breaks(o) = fit_body(table, given, body, s, at, stop, outer) {
+        return Fit::Breaks(o);
+    }
+    check_rule(
+        kind - RULES,
+        column(table, row, 1),
+        given,
+        s,
+        at,
+        stop,
+        outer,
+    )
+}
+
+// Whether the window is as a row of the table says, field by field. The octets `given` are those that a rule compares with.
 fn fit_row(
     table: &[u8],
     given: &[u8],
@@ -217,60 +360,18 @@ fn fit_row(
     requires { ⌜ (now table ≡ rows) × (row < count) ⌝ }
     ensures { λ r. ⌜ r ≡ fit (grammarOf (now (given .entry)) row) (now (s .entry)) at stop outer ⌝ }
 {
-    let kind = column(table, row, 0);
-    let n = column(table, row, 1);
-    let body = column(table, row, 2);
-    let next = column(table, row, 3);
-    if kind == FREE {
-        return Fit::Fits;
-    }
-    if kind == END {
-        if stop <= at {
-            return Fit::Fits;
+    let mut r = row;
+    let mut i = at;
+    while is_field(column(table, r, 0)) {
+        match fit_field(table, given, r, s, i, stop, outer) {
+            Field::Breaks(o) => return Fit::Breaks(o),
+            Field::Behind(p) => {
+                i = p;
+            }
         }
-        return Fit::Breaks(at);
+        r = column(table, r, 3);
     }
-    if kind == MANY {
-        return fit_each(table, given, body, s, at, stop, outer);
-    }
-    if RULES <= kind {
-        if let Fit::Breaks(o) = fit_row(table, given, body, s, at, stop, outer) {
-            return Fit::Breaks(o);
-        }
-        return check_rule(kind - RULES, n, given, s, at, stop, outer);
-    }
-    if stop <= at {
-        if kind == REQUIRED {
-            return Fit::Breaks(outer);
-        }
-        if kind == ONE {
-            return Fit::Breaks(outer);
-        }
-        return fit_row(table, given, next, s, at, stop, outer);
-    }
-    let e = der::element_at(s, at, stop);
-    if !e.good {
-        return Fit::Breaks(at);
-    }
-    if kind == ANY_OPTIONAL {
-        return fit_row(table, given, next, s, e.stop, stop, outer);
-    }
-    if kind == ONE {
-        if let Fit::Breaks(o) = fit_row(table, given, body, s, at, e.stop, outer) {
-            return Fit::Breaks(o);
-        }
-        return fit_row(table, given, next, s, e.stop, stop, outer);
-    }
-    if wide(e.tag) != n {
-        if kind == REQUIRED {
-            return Fit::Breaks(at);
-        }
-        return fit_row(table, given, next, s, at, stop, outer);
-    }
-    if let Fit::Breaks(o) = fit_row(table, given, body, s, e.start, e.stop, at) {
-        return Fit::Breaks(o);
-    }
-    fit_row(table, given, next, s, e.stop, stop, outer)
+    fit_rest(table, given, r, s, i, stop, outer)
 }
 
 // Whether each element of the window, by itself, is as the row says.

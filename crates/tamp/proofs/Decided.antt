@@ -17,36 +17,40 @@ use Rattle.protocol.specs.Acceptance.{judgement}
 use Rattle.protocol.specs.Effect.{effect}
 use Rattle.protocol.specs.Call.{answered, guarded, refusalReply, answerOf}
 use Rattle.protocol.proofs.Statuses.{refusal-small}
+use Rattle.accept.specs.Judged.{judgedIn}
+use Rattle.accept.proofs.OfStore.{judged-store}
 use Rattle.tamp.specs.Left.{Left, leaves}
 use Rattle.tamp.specs.Given.{Rooms, Stored, Signed}
 use Rattle.tamp.proofs.Parts.{image-short}
 use Rattle.tamp.proofs.Signers.{signed}
 
-module _ (s image verdict : List ℕ) where
+module _ (s image verdict : List ℕ) (o : Octets image) {j : Judgement} (f : j ≡ judgedIn image verdict s) where
+  -- an image that decodes is judged by its store
+  by-store : (σ : Store) → decode image ≡ some σ → j ≡ judgement σ verdict s
+  by-store σ d = f ∙ judged-store image o σ d verdict s
+
   -- a refusal is small, as its image
-  pub refusal-given : Octets image → {reply next : List ℕ} → Rooms s reply next → (g : Stored image) → {j : Judgement}
-      → ((σ : Store) → decode image ≡ some σ → j ≡ judgement σ verdict s) → {r : Refusal} → j ≡ Refuses r
+  pub refusal-given : {reply next : List ℕ} → Rooms s reply next → (g : Stored image) → {r : Refusal} → j ≡ Refuses r
       → Rooms s reply next × (r .status .number < 256) × (length image ≤ imageRoom)
-  refusal-given o rooms g f {r} e = (
+  refusal-given rooms g {r} e = (
     rooms,
-    omega (arith, refusal-small (g .store) verdict s r (sym (f (g .store) (g .decodes)) ∙ e)),
+    omega (arith, refusal-small (g .store) verdict s r (sym (by-store (g .store) (g .decodes)) ∙ e)),
     image-short image (g .store) o (g .decodes),
   )
 
   -- an accepted request has a signer in the store
-  pub accepted-given : {reply next : List ℕ} → Rooms s reply next → (g : Stored image) → {j : Judgement}
-      → ((σ : Store) → decode image ≡ some σ → j ≡ judgement σ verdict s) → {q : Request} {i : ℕ} → j ≡ Accepts q i
+  pub accepted-given : {reply next : List ℕ} → Rooms s reply next → (g : Stored image) → {q : Request} {i : ℕ} → j ≡ Accepts q i
       → Rooms s reply next × Signed s q i image
-  accepted-given rooms g f e = (rooms, signed (g .store) s image verdict (g .decodes) (sym (f (g .store) (g .decodes)) ∙ e))
+  accepted-given rooms g e = (rooms, signed (g .store) s image verdict (g .decodes) (sym (by-store (g .store) (g .decodes)) ∙ e))
 
-  module _ (reply next : List ℕ) (σ : Store) {j : Judgement} (f : j ≡ judgement σ verdict s) {z : Left} where
+  module _ (reply next : List ℕ) (σ : Store) (d : decode image ≡ some σ) {z : Left} where
     pub refused-by : {r : Refusal} → j ≡ Refuses r → z ≡ leaves (guarded (answered (r .status) (refusalReply s r) image)) reply next
         → z ≡ leaves (guarded (answerOf s image σ (judgement σ verdict s))) reply next
     unfolding answerOf
-    refused-by e a = a ∙ ap (λ (j : Judgement). leaves (guarded (answerOf s image σ j)) reply next) (sym e ∙ f)
+    refused-by e a = a ∙ ap (λ (j : Judgement). leaves (guarded (answerOf s image σ j)) reply next) (sym e ∙ by-store σ d)
 
     pub accepted-by : {q : Request} {i : ℕ} → j ≡ Accepts q i
         → (let e = effect s q i σ in z ≡ leaves (guarded (answered (e .status) (e .reply) (encode (e .store)))) reply next)
         → z ≡ leaves (guarded (answerOf s image σ (judgement σ verdict s))) reply next
     unfolding answerOf
-    accepted-by e a = a ∙ ap (λ (j : Judgement). leaves (guarded (answerOf s image σ j)) reply next) (sym e ∙ f)
+    accepted-by e a = a ∙ ap (λ (j : Judgement). leaves (guarded (answerOf s image σ j)) reply next) (sym e ∙ by-store σ d)

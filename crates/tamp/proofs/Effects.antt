@@ -1,60 +1,165 @@
 -- The effects of an accepted message, as the code makes them on a scratch image.
-use Prim.Native.Nat.{ℕ, _+_, _≤_, _<_}
+use Prim.Native.Nat.{ℕ, zero, suc, _+_, _≤_, _<_}
 use native.Mathlib.Omega.{arith}
 use mathlib.Core.Bool.{true, false}
-use mathlib.Core.List.{List, [], map, map-map, map-id}
+use mathlib.Core.List.{List, [], _∷_, map, map-map, map-id}
 use mathlib.Core.Option.{some}
-use mathlib.Core.Path.{_≡_, sym, ap, ap₂, _∙_}
+use mathlib.Core.Path.{_≡_, refl, sym, ap, ap₂, _∙_}
 use lib.ListN.{length, take, length-map, length-take}
 use borrow.Author.Tests.{lt-ltb, le-ltb}
 use Rattle.octets.specs.declared.Status.{Status}
-use Rattle.octets.specs.Status.{success, insufficientMemory}
-use Rattle.octets.specs.Limits.{imageRoom, maxUpdates}
+use Rattle.octets.specs.Status.{success, insufficientMemory, longReply}
+use Rattle.octets.specs.Limits.{imageRoom, replyRoom, maxUpdates}
 use Rattle.octets.specs.Octets.{Octets, placed}
 use Rattle.octets.proofs.Placed.{take-behind-placed}
 use Rattle.der.specs.declared.Element.{Element}
 use Rattle.der.specs.Element.{whole, contents, inside}
 use Rattle.syntax.specs.declared.TampType.{TampType}
-use Rattle.syntax.specs.declared.TampType.the-variants.{Update}
+use Rattle.syntax.specs.declared.TampType.the-variants.{StatusQuery, Update, CommunityUpdate, SeqNumAdjust}
 use Rattle.rights.specs.Rights.{Rights}
-use Rattle.store.specs.Store.{Store, anchors}
+use Rattle.store.specs.Store.{Anchor, Store, anchors, identifierOf, identifiers}
 use Rattle.store.specs.Image.{encode, decode}
-use Rattle.store.specs.Records.{recordsOf}
-use Rattle.store.specs.Parts.{identifierIn, communitiesOf}
-use Rattle.store.proofs.RoundTrip.{encode-decode, decode-wellFormed}
+use Rattle.store.proofs.RoundTrip.{decode-encode, encode-decode, decode-wellFormed}
 use Rattle.store.proofs.Sizes.{encode-length}
 use Rattle.envelope.specs.declared.Refusal.{Refusal}
 use Rattle.message.specs.declared.Request.{Request}
 use Rattle.message.specs.declared.Entry.{Entry}
 use Rattle.message.specs.Fields.{seqNumIn, updatesIn, entryOf, entriesIn, removeIn, oidsIn, additionsIn}
 use Rattle.reply.specs.Replies.{tampError, statusResponse, updateConfirm, communityConfirm, adjustConfirm}
-use Rattle.reply.specs.Parts.{statusOf}
+use Rattle.reply.specs.Parts.{statusOf, responseOf}
 use Rattle.protocol.specs.Acceptance.{rightsAt}
 use Rattle.protocol.specs.Update.{Steps, steps}
 use Rattle.protocol.specs.Call.{answered, guarded, refusalReply}
-use Rattle.protocol.specs.Effect.{Effect, withNumber, queryEffect, adjustEffect, communityEffect, updateEffect, effectOf, effect}
+use Rattle.protocol.specs.Effect.{Effect, numberSet, withNumber, queryEffect, adjustEffect, communityEffect, updateEffect, effectOf, effect}
 use Rattle.protocol.proofs.Demand2.{steps-count}
 use Rattle.protocol.proofs.Statuses.{community-small}
 use Rattle.apply.specs.Scratch.{Holds, signerRights}
 use Rattle.apply.specs.Update.{codesOf}
+use Rattle.apply.specs.declared.Communities.{Communities}
+use Rattle.apply.specs.Community.{CommunityDone}
 use Rattle.apply.proofs.Signer.{signer-rights}
-use Rattle.tamp.specs.Left.{Left, leaves}
-use Rattle.tamp.specs.Given.{Encodes}
+use Rattle.tamp.specs.declared.Answer.{Answer}
+use Rattle.tamp.specs.Left.{Left, leaves, refusal, answer, AnswersTo}
+use Rattle.tamp.specs.Given.{Signed, Renumbers}
+use Rattle.tamp.proofs.Answers.{too-long, written, as-status}
 use Rattle.tamp.proofs.Parts.{response-of}
+use Rattle.tamp.proofs.Signers.{signed-inside, written-holds}
 
--- the rights that the code reads are the signer's at acceptance
-rights-at : (image : List ℕ) (σ : Store) → Octets image → decode image ≡ some σ → (i : ℕ) → i < length (anchors σ) → signerRights image i ≡ rightsAt σ i
-rights-at image σ o d i h =
-    ap (λ (m : List ℕ). signerRights m i) (sym (encode-decode image σ o d)) ∙ signer-rights σ i (decode-wellFormed image σ d) h
+-- an effect's answer, and the effect of an accepted message by its type
+abbrev pub Leaving : Effect → List ℕ → List ℕ → Left
+Leaving e reply next = leaves (guarded (answered (e .status) (e .reply) (encode (e .store)))) reply next
 
--- what an accepted message does, by its type
 effect-is : (s : List ℕ) (q : Request) (i : ℕ) (σ : Store) {kind : TampType} → q .kind ≡ kind
     → effect s q i σ ≡ effectOf kind s q (rightsAt σ i) (withNumber i (seqNumIn s (q .msgref)) σ)
 unfolding effect
 effect-is s q i σ k = ap (λ (kind : TampType). effectOf kind s q (rightsAt σ i) (withNumber i (seqNumIn s (q .msgref)) σ)) k
 
+by-effect : (s : List ℕ) (q : Request) (i : ℕ) (σ : Store) (reply next : List ℕ) {z : Left} {kind : TampType} → q .kind ≡ kind
+    → z ≡ Leaving (effectOf kind s q (rightsAt σ i) (withNumber i (seqNumIn s (q .msgref)) σ)) reply next → z ≡ Leaving (effect s q i σ) reply next
+by-effect s q i σ reply next k a = a ∙ ap (λ (e : Effect). Leaving e reply next) (sym (effect-is s q i σ k))
+
 pub held-short : {σ : Store} {d : List ℕ} {len : ℕ} → Holds σ d len → length (take len d) ≤ imageRoom
 held-short {σ} h = rw (h .image) (encode-length σ (h .good))
+
+-- Query and Adjust: the signer's number moves, and nothing else
+
+abbrev Moves : List ℕ → Request → ℕ → List ℕ → List ℕ → Type 0
+Moves s q i image said =
+    (σ : Store) → decode image ≡ some σ → effect s q i σ ≡ record { status = success; reply = said; store = withNumber i (seqNumIn s (q .msgref)) σ }
+
+numberSet-identifiers : (i n : ℕ) (l : List Anchor) → map identifierOf (numberSet i n l) ≡ map identifierOf l
+unfolding numberSet
+numberSet-identifiers i n [] = refl
+numberSet-identifiers zero n (a ∷ l) = refl
+numberSet-identifiers (suc i) n (a ∷ l) = ap (λ (r : List (List ℕ)). identifierOf a ∷ r) (numberSet-identifiers i n l)
+
+-- a response does not depend on numbers
+response-stays : (msgRef : List ℕ) (i n : ℕ) (σ : Store)
+    → statusResponse msgRef (identifiers σ) (σ .communities) ≡ statusResponse msgRef (identifiers (withNumber i n σ)) (withNumber i n σ .communities)
+unfolding withNumber
+response-stays msgRef zero n σ = refl
+response-stays msgRef (suc i) n σ =
+    ap (λ (l : List (List ℕ)). statusResponse msgRef (identifierOf (σ .apex) ∷ l) (σ .communities)) (sym (numberSet-identifiers i n (σ .others)))
+
+pub response-again : (s : List ℕ) (q : Request) (i : ℕ) (image next m : List ℕ) → Signed s q i image → {l : ℕ} {next′ : List ℕ}
+    → Renumbers s q i image next l next′ → imageRoom ≤ length next → responseOf m (take l next′) ≡ responseOf m image
+response-again s q i image next m g {l} {next′} w room =
+    let n = seqNumIn s (q .msgref) in
+    let h = written-holds (w (g .store) (g .decodes)) room in
+    let d : decode (take l next′) ≡ some (withNumber i n (g .store)) = ap decode (h .image) ∙ decode-encode (withNumber i n (g .store)) (h .good) in
+    response-of m (take l next′) (withNumber i n (g .store)) d ∙ sym (response-of m image (g .store) (g .decodes) ∙ response-stays m i n (g .store))
+
+module _ (s : List ℕ) (q : Request) (i : ℕ) (image : List ℕ) {m : List ℕ} (e : m ≡ whole s (q .msgref)) where
+  pub query-moves : q .kind ≡ StatusQuery → Moves s q i image (responseOf m image)
+  unfolding effectOf queryEffect
+  query-moves k σ d =
+      let n = seqNumIn s (q .msgref) in
+      effect-is s q i σ k
+      ∙ ap (λ (said : List ℕ). record { status = success; reply = said; store = withNumber i n σ })
+      (sym (ap (λ (m : List ℕ). responseOf m image) e ∙ response-of (whole s (q .msgref)) image σ d ∙ response-stays (whole s (q .msgref)) i n σ))
+
+  pub adjust-moves : q .kind ≡ SeqNumAdjust → Moves s q i image (adjustConfirm m)
+  unfolding effectOf adjustEffect
+  adjust-moves k σ d =
+      effect-is s q i σ k
+      ∙ ap (λ (m : List ℕ). record { status = success; reply = adjustConfirm m; store = withNumber i (seqNumIn s (q .msgref)) σ }) (sym e)
+
+module _ (s : List ℕ) (q : Request) (i : ℕ) (image said reply next : List ℕ) (moves : Moves s q i image said) {n : ℕ} (size : n ≡ length said) where
+  pub moved-long : replyRoom < n → {r : Answer} → r ≡ refusal longReply → AnswersTo s q i image r reply next reply next
+  moved-long h a σ d =
+      too-long success said (encode (withNumber i (seqNumIn s (q .msgref)) σ)) reply next refl size h a
+      ∙ ap (λ (e : Effect). Leaving e reply next) (sym (moves σ d))
+
+  pub moved : n ≤ replyRoom → {k l : ℕ} {r : Answer} {reply′ next′ : List ℕ} → k ≡ length said → reply′ ≡ placed reply 0 said
+      → Renumbers s q i image next l next′ → r ≡ answer success k l → AnswersTo s q i image r reply next reply′ next′
+  moved h {k} f p w a σ d =
+      written success said (encode (withNumber i (seqNumIn s (q .msgref)) σ)) reply next refl refl size h f p
+      (a ∙ ap (answer success k) (w σ d .size))
+      (w σ d .octets)
+      ∙ ap (λ (e : Effect). Leaving e reply next) (sym (moves σ d))
+
+-- Community Update
+
+pub status-small : (s : List ℕ) (q : Request) (σ : Store) {status : Status} → status ≡ communityEffect s q σ .status → status .number < 256
+unfolding communityEffect
+status-small s q σ e =
+    let updates = updatesIn s (q .body) (q .msgref) in
+    let remove = removeIn s updates in
+    omega (arith, ap (λ (status : Status). status .number) e, community-small (remove .good) (oidsIn s remove) (additionsIn s updates) (σ .communities))
+
+community-said : (s : List ℕ) (q : Request) (σ : Store) {m : List ℕ} {status : Status} → m ≡ whole s (q .msgref) → status ≡ communityEffect s q σ .status
+    → communityConfirm m status ≡ communityEffect s q σ .reply
+unfolding communityEffect
+community-said s q σ e f = ap₂ communityConfirm e f
+
+module _ (s : List ℕ) (q : Request) (i : ℕ) (image reply next : List ℕ) (kind : q .kind ≡ CommunityUpdate)
+    {empty work : List ℕ} {len : ℕ} (w : Renumbers s q i image empty len work) (room : imageRoom ≤ length empty)
+    {done : Communities} {work′ : List ℕ} (u : CommunityDone s q work len done work′)
+    {m : List ℕ} (e : m ≡ whole s (q .msgref)) {n : ℕ} (size : n ≡ length (communityConfirm m (done .status))) where
+  abbrev after : Store → Effect
+  after σ = communityEffect s q (withNumber i (seqNumIn s (q .msgref)) σ)
+
+  status-is : (σ : Store) → decode image ≡ some σ → done .status ≡ after σ .status
+  status-is σ d = u .status _ (written-holds (w σ d) room)
+
+  said-is : (σ : Store) → decode image ≡ some σ → communityConfirm m (done .status) ≡ after σ .reply
+  said-is σ d = community-said s q _ e (status-is σ d)
+
+  pub community-long : replyRoom < n → {r : Answer} → r ≡ refusal longReply → AnswersTo s q i image r reply next reply next
+  unfolding effectOf
+  community-long h a σ d =
+      by-effect s q i σ reply next kind (too-long (after σ .status) (after σ .reply) (encode (after σ .store)) reply next (said-is σ d) size h a)
+
+  pub community-written : n ≤ replyRoom → {k : ℕ} {r : Answer} {reply′ next′ : List ℕ} → k ≡ length (communityConfirm m (done .status))
+      → reply′ ≡ placed reply 0 (communityConfirm m (done .status)) → r ≡ answer (done .status) k (length (take (done .len) work′))
+      → next′ ≡ placed next 0 (take (done .len) work′) → AnswersTo s q i image r reply next reply′ next′
+  unfolding effectOf
+  community-written h f p a y σ d =
+      by-effect s q i σ reply next kind
+      (as-status (done .status) (after σ .reply) (encode (after σ .store)) reply next (status-is σ d)
+      (written (done .status) (after σ .reply) (encode (after σ .store)) reply next (said-is σ d)
+      (u .store _ (written-holds (w σ d) room) .image)
+      size h f p a y))
 
 -- Update
 
@@ -109,18 +214,18 @@ module _ (s : List ℕ) (q : Request) {list : Element} {n : ℕ} (e : list ≡ u
     -- 17 for the message as a whole
     pub update-refused : maxUpdates < n → {d : List ℕ} {len : ℕ} → Holds σ d len
         → z ≡ leaves (guarded (answered insufficientMemory (tampError (contents s (q .msgtype)) insufficientMemory (whole s (q .msgref))) (take len d))) reply next
-        → let e = updateEffect s q rights σ in z ≡ leaves (guarded (answered (e .status) (e .reply) (encode (e .store)))) reply next
+        → z ≡ Leaving (updateEffect s q rights σ) reply next
     update-refused h {d} {len} g a =
         let many : maxUpdates < length (entriesIn s (q .body) (q .msgref)) = omega (arith, counted) in
         a
         ∙ ap (λ (t : List ℕ). leaves (guarded (answered insufficientMemory (tampError (contents s (q .msgtype)) insufficientMemory (whole s (q .msgref))) t)) reply next) (g .image)
-        ∙ ap (λ (e : Effect). leaves (guarded (answered (e .status) (e .reply) (encode (e .store)))) reply next) (sym (update-many s q rights σ many))
+        ∙ ap (λ (e : Effect). Leaving e reply next) (sym (update-many s q rights σ many))
 
     -- the confirm, of each entry's status
     pub update-confirmed : n ≤ maxUpdates → (codes : List ℕ) {codes′ d′ : List ℕ} {r : ℕ} → Holds (updateEffect s q rights σ .store) d′ r
         → codes′ ≡ placed codes 0 (codesOf (done s q rights σ .statuses))
         → z ≡ leaves (guarded (answered success (updateConfirm (whole s (q .msgref)) (map statusOf (take n codes′))) (take r d′))) reply next
-        → let e = updateEffect s q rights σ in z ≡ leaves (guarded (answered (e .status) (e .reply) (encode (e .store)))) reply next
+        → z ≡ Leaving (updateEffect s q rights σ) reply next
     update-confirmed h codes {codes′} {d′} {r} g w a =
         let few : length (entriesIn s (q .body) (q .msgref)) ≤ maxUpdates = omega (arith, counted) in
         a
@@ -134,24 +239,20 @@ module _ (s : List ℕ) (q : Request) {list : Element} {n : ℕ} (e : list ≡ u
 pub codes-few : {n : ℕ} {l x : List ℕ} → l ≡ x → n ≤ maxUpdates → length (take n l) ≤ maxUpdates
 codes-few {n} {l} e h = simp length-take (omega arith)
 
--- Query and Adjust
+-- by the rights that the code reads, which are the signer's at acceptance
+rights-at : (image : List ℕ) (σ : Store) → Octets image → decode image ≡ some σ → (i : ℕ) → i < length (anchors σ) → signerRights image i ≡ rightsAt σ i
+rights-at image σ o d i h =
+    ap (λ (m : List ℕ). signerRights m i) (sym (encode-decode image σ o d)) ∙ signer-rights σ i (decode-wellFormed image σ d) h
 
-pub query-said : (s : List ℕ) (q : Request) (σ : Store) (m image : List ℕ) → m ≡ whole s (q .msgref) → Encodes σ image
-    → statusResponse m (map identifierIn (recordsOf image)) (communitiesOf image) ≡ queryEffect s q σ .reply
-unfolding queryEffect
-query-said s q σ m image e g =
-    ap (λ (m : List ℕ). statusResponse m (map identifierIn (recordsOf image)) (communitiesOf image)) e ∙ response-of (whole s (q .msgref)) image σ (g .0) (g .1)
-
-pub adjust-said : (s : List ℕ) (q : Request) (σ : Store) {m : List ℕ} → m ≡ whole s (q .msgref) → adjustConfirm m ≡ adjustEffect s q σ .reply
-unfolding adjustEffect
-adjust-said s q σ e = ap adjustConfirm e
-
--- Community Update
-
-pub community-said : (s : List ℕ) (q : Request) (σ : Store) {m : List ℕ} {status : Status} → m ≡ whole s (q .msgref) → status ≡ communityEffect s q σ .status
-    → communityConfirm m status ≡ communityEffect s q σ .reply
-unfolding communityEffect
-community-said s q σ e f = ap₂ communityConfirm e f
+module _ (s : List ℕ) (q : Request) (i : ℕ) (σ : Store) (reply next : List ℕ) {z : Left} where
+  pub by-update : (image : List ℕ) → Octets image → Signed s q i image → decode image ≡ some σ → q .kind ≡ Update
+      → z ≡ Leaving (updateEffect s q (signerRights image i) (withNumber i (seqNumIn s (q .msgref)) σ)) reply next → z ≡ Leaving (effect s q i σ) reply next
+  unfolding effectOf
+  by-update image o g d k a =
+      by-effect s q i σ reply next k
+      (a
+      ∙ ap (λ (rights : Rights). Leaving (updateEffect s q rights (withNumber i (seqNumIn s (q .msgref)) σ)) reply next)
+      (rights-at image σ o d i (signed-inside s q i image g σ d)))
 
 -- a refused message's reply
 
@@ -162,27 +263,3 @@ refusal-silent s r e = rw e
 pub refusal-told : (s : List ℕ) (r : Refusal) → r .msgtype .good ≡ true → refusalReply s r ≡ tampError (contents s (r .msgtype)) (r .status) (whole s (r .msgref))
 unfolding refusalReply
 refusal-told s r e = rw e
-
-pub status-small : (s : List ℕ) (q : Request) (σ : Store) {status : Status} → status ≡ communityEffect s q σ .status → status .number < 256
-unfolding communityEffect
-status-small s q σ e =
-    let updates = updatesIn s (q .body) (q .msgref) in
-    let remove = removeIn s updates in
-    omega (arith, ap (λ (status : Status). status .number) e, community-small (remove .good) (oidsIn s remove) (additionsIn s updates) (σ .communities))
-
--- an accepted message, by its type
-
-abbrev pub Leaving : Effect → List ℕ → List ℕ → Left
-Leaving e reply next = leaves (guarded (answered (e .status) (e .reply) (encode (e .store)))) reply next
-
-module _ (s : List ℕ) (q : Request) (i : ℕ) (σ : Store) (reply next : List ℕ) {z : Left} where
-  pub by-effect : {kind : TampType} → q .kind ≡ kind → z ≡ Leaving (effectOf kind s q (rightsAt σ i) (withNumber i (seqNumIn s (q .msgref)) σ)) reply next
-      → z ≡ Leaving (effect s q i σ) reply next
-  by-effect k a = a ∙ ap (λ (e : Effect). Leaving e reply next) (sym (effect-is s q i σ k))
-
-  pub by-update : (image : List ℕ) → Octets image → decode image ≡ some σ → i < length (anchors σ) → q .kind ≡ Update
-      → z ≡ Leaving (updateEffect s q (signerRights image i) (withNumber i (seqNumIn s (q .msgref)) σ)) reply next → z ≡ Leaving (effect s q i σ) reply next
-  unfolding effectOf
-  by-update image o d h k a =
-      by-effect k
-      (a ∙ ap (λ (rights : Rights). Leaving (updateEffect s q rights (withNumber i (seqNumIn s (q .msgref)) σ)) reply next) (rights-at image σ o d i h))

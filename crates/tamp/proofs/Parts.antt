@@ -1,23 +1,21 @@
 -- Parts of a message are no longer than it; and what the call reads of an image.
 use Prim.Native.Nat.{ℕ, _-_, _≤_}
 use native.Mathlib.Omega.{arith}
-use mathlib.Core.Bool.{true}
-use mathlib.Core.List.{List, map}
+use mathlib.Core.List.{List}
 use mathlib.Core.Option.{some}
-use mathlib.Core.Path.{_≡_, ap, ap₂, _∙_}
+use mathlib.Core.Path.{_≡_, ap, ap₂}
 use lib.ListN.{length, length-take, length-drop}
 use Rattle.octets.specs.Limits.{imageRoom, maxMessage}
 use Rattle.octets.specs.Octets.{Octets, part}
 use Rattle.der.specs.declared.Element.{Element}
 use Rattle.der.specs.Element.{whole, contents}
 use Rattle.store.specs.Store.{Store, identifiers}
-use Rattle.store.specs.Image.{encode, decode, wellFormed}
-use Rattle.store.specs.Records.{recordsOf}
-use Rattle.store.specs.Parts.{identifierIn, communitiesOf}
-use Rattle.store.proofs.RoundTrip.{decode-encode, encode-decode, decode-wellFormed}
+use Rattle.store.specs.Image.{decode}
+use Rattle.store.proofs.RoundTrip.{encode-decode, decode-wellFormed}
 use Rattle.store.proofs.Sizes.{encode-length}
 use Rattle.store.proofs.Parts.{parts, identifiers-of}
 use Rattle.reply.specs.Replies.{statusResponse}
+use Rattle.reply.specs.Parts.{responseOf}
 
 length-part : (s : List ℕ) (a e : ℕ) → length (part s a e) ≤ length s
 length-part s a e = simp (length-take, length-drop) (omega arith)
@@ -33,11 +31,8 @@ pub image-short : (image : List ℕ) (σ : Store) → Octets image → decode im
 image-short image σ o d = rw (encode-decode image σ o d) at (encode-length σ (decode-wellFormed image σ d))
 
 -- a Query's response, as the code reads it from an image
-pub response-of : (msgRef image : List ℕ) (σ : Store) → wellFormed σ ≡ true → image ≡ encode σ
-    → statusResponse msgRef (map identifierIn (recordsOf image)) (communitiesOf image) ≡ statusResponse msgRef (identifiers σ) (σ .communities)
-response-of msgRef image σ w e =
-    let d : decode image ≡ some σ = ap decode e ∙ decode-encode σ w in
-    ap₂ (statusResponse msgRef) (identifiers-of image σ d) (parts image σ d .communities)
+pub response-of : (msgRef image : List ℕ) (σ : Store) → decode image ≡ some σ → responseOf msgRef image ≡ statusResponse msgRef (identifiers σ) (σ .communities)
+response-of msgRef image σ d = ap₂ (statusResponse msgRef) (identifiers-of image σ d) (parts image σ d .communities)
 
 -- parts of a short message are short
 module _ (s : List ℕ) (e : Element) {m : List ℕ} (short : length s ≤ maxMessage) where

@@ -2,15 +2,15 @@
 use Prim.Native.Nat.{ℕ, suc, _+_, _≤_, _<_}
 use native.Mathlib.Omega.{arith}
 use mathlib.Core.Bool.{Bool, true, false, true≢false}
-use mathlib.Core.List.{List}
+use mathlib.Core.List.{List, _++_}
 use mathlib.Core.Option.{some}
 use mathlib.Core.Path.{_≡_, sym, ap, ap₂, _∙_}
-use lib.ListN.{length, take, drop, getD}
+use lib.ListN.{length, take, drop, getD, take-append-drop}
 use lib.Seq.{split-at, length-take-le}
 use Rattle.octets.specs.Limits.{imageRoom}
 use Rattle.octets.specs.First.{givenIf}
 use Rattle.octets.specs.Octets.{Octets, placed}
-use Rattle.octets.proofs.Placed.{length-placed, take-behind-placed}
+use Rattle.octets.proofs.Placed.{length-placed, take-behind-placed, drop-behind-placed}
 use Rattle.der.specs.Element.{contents, field}
 use Rattle.store.specs.declared.Found.{Found}
 use Rattle.store.specs.declared.Found.the-variants as found
@@ -19,9 +19,9 @@ use Rattle.store.specs.Image.{encodeNumber, encode, decode, wellFormed}
 use Rattle.store.specs.Parts.{firstRecord, recordPlace}
 use Rattle.store.specs.Signer.{signer}
 use Rattle.store.proofs.RoundTrip.{encode-decode, decode-wellFormed}
-use Rattle.store.proofs.Sizes.{length-encodeNumber}
+use Rattle.store.proofs.Sizes.{length-encodeNumber, encode-length}
 use Rattle.edit.specs.Places.{placeOf}
-use Rattle.edit.proofs.Places.{place-inside, end-inside}
+use Rattle.edit.proofs.Places.{place-inside, end-inside, image-length}
 use Rattle.envelope.specs.declared.Refusal.{Refusal}
 use Rattle.message.specs.declared.Request.{Request}
 use Rattle.message.specs.declared.Received.{Received}
@@ -40,7 +40,8 @@ use Rattle.protocol.proofs.WellFormed.{good-store, store-good, good-withNumber}
 use Rattle.accept.proofs.Anchors.{signer-anchor}
 use Rattle.apply.proofs.Edits.{set-number-step}
 use Rattle.apply.proofs.Image.{record-place}
-use Rattle.tamp.specs.Given.{Signed, Renumbers}
+use Rattle.apply.specs.Scratch.{Holds, Scratch}
+use Rattle.tamp.specs.Given.{Signed, Writes, Renumbers}
 use Rattle.tamp.proofs.Parts.{image-short}
 
 -- the signer stands at a position of the store
@@ -112,35 +113,68 @@ signed-inside s q i image g σ d =
     let e : g .store ≡ σ = some-same (sym (g .decodes) ∙ d) in
     rw e at (g .inside)
 
-module _ (s : List ℕ) (q : Request) (i : ℕ) (image work : List ℕ) (os : Octets s) (oi : Octets image) (g : Signed s q i image) (room : imageRoom ≤ length work) where
-  pub copy-fits : 0 + length image ≤ length work
+-- a write inside what was placed
+placed-inside : (d s t x : List ℕ) (p : ℕ) → length s ≤ length d → p + length x ≤ length s → length t ≡ length s
+    → take (length s) (placed (placed d 0 s) p x) ≡ t → placed (placed d 0 s) p x ≡ placed d 0 t
+unfolding placed
+placed-inside d s t x p room inside size e =
+    let b = placed d 0 s in
+    let z : length s ≡ 0 + length t = omega arith in
+    let k : length b ≡ length d = length-placed d 0 s (omega arith) in
+    let f : drop (length s) (placed b p x) ≡ drop (length s) d =
+    drop-behind-placed b p x (length s) inside (omega arith) ∙ drop-behind-placed d 0 s (length s) (omega arith) (omega arith)
+    in
+    sym (take-append-drop (length s) (placed b p x)) ∙ ap₂ _++_ e (f ∙ ap (λ (k : ℕ). drop k d) z)
+
+module _ (s : List ℕ) (q : Request) (i : ℕ) (image next : List ℕ) (os : Octets s) (oi : Octets image) (g : Signed s q i image) (room : imageRoom ≤ length next) where
+  pub copy-fits : 0 + length image ≤ length next
   copy-fits = omega (arith, image-short image (g .store) oi (g .decodes))
 
-  module _ {work′ : List ℕ} {p : ℕ} (w : work′ ≡ placed work 0 image) (e : p ≡ recordPlace image (firstRecord image) i) where
-    pub number-fits : p + 9 ≤ length work′
+  module _ {next′ : List ℕ} {p : ℕ} (w : next′ ≡ placed next 0 image) (e : p ≡ recordPlace image (firstRecord image) i) where
+    pub number-fits : p + 9 ≤ length next′
     number-fits =
         let h = place-room s q i image os oi (g .asks) (g .store) (g .decodes) (g .inside) in
         let k = place-is s q i image os oi (g .asks) (g .store) (g .decodes) (g .inside) in
-        omega (arith, ap length w, length-placed work 0 image copy-fits, image-short image (g .store) oi (g .decodes))
+        omega (arith, ap length w, length-placed next 0 image copy-fits, image-short image (g .store) oi (g .decodes))
 
-    pub renumber-done : {n : ℕ} {work″ : List ℕ} → n ≡ readNumber s (field 0x02 s (q .msgref)) → work″ ≡ placed work′ p (encodeNumber (some n))
-        → Renumbers s q i image work (length image) work″
-    renumber-done {n} {work″} f x =
-        let short = image-short image (g .store) oi (g .decodes) in
-        let size : length work″ ≡ length work =
-        ap length x ∙ length-placed work′ p (encodeNumber (some n)) (omega (arith, number-fits, length-encodeNumber (some n))) ∙ ap length w ∙ length-placed work 0 image copy-fits
-        in (
-          size,
-          λ σ d.
-              let inside = signed-inside s q i image g σ d in
-              let all : work″ ≡ placed (placed work 0 image) (placeOf σ i) (encodeNumber (some (seqNumIn s (q .msgref)))) =
-              x
-              ∙ ap (λ (b : List ℕ). placed b p (encodeNumber (some n))) w
-              ∙ ap₂ (λ (a m : ℕ). placed (placed work 0 image) a (encodeNumber (some m))) (e ∙ place-is s q i image os oi (g .asks) σ d inside) (f ∙ asked-seqNum s q (g .asks))
-              in
-              record {
-                image = ap (take (length image)) all ∙ renumbered s q i image os oi (g .asks) σ d inside work room short;
-                inside = omega (arith, size);
-                good = good-after s q i image os oi (g .asks) σ d inside;
-              },
-        )
+    pub renumber-done : {n : ℕ} {next″ : List ℕ} → n ≡ readNumber s (field 0x02 s (q .msgref)) → next″ ≡ placed next′ p (encodeNumber (some n))
+        → Renumbers s q i image next (length image) next″
+    renumber-done {n} {next″} f x σ d =
+        let inside = signed-inside s q i image g σ d in
+        let m = seqNumIn s (q .msgref) in
+        let b = placed next 0 image in
+        let all : next″ ≡ placed b (placeOf σ i) (encodeNumber (some m)) =
+        x
+        ∙ ap (λ (b : List ℕ). placed b p (encodeNumber (some n))) w
+        ∙ ap₂ (λ (a m : ℕ). placed b a (encodeNumber (some m))) (e ∙ place-is s q i image os oi (g .asks) σ d inside) (f ∙ asked-seqNum s q (g .asks))
+        in
+        let held = renumbered s q i image os oi (g .asks) σ d inside next room (image-short image σ oi d) in
+        let k = place-room s q i image os oi (g .asks) σ d inside in
+        let l = length-encodeNumber (some m) in
+        let c = length-placed next 0 image copy-fits in
+        let size : length (encode (withNumber i m σ)) ≡ length image =
+        image-length (withNumber i m σ) (placed b (placeOf σ i) (encodeNumber (some m))) (length image) held
+        (omega (arith, length-placed b (placeOf σ i) (encodeNumber (some m)) (omega (arith, copy-fits)), copy-fits))
+        in
+        record {
+          good = good-after s q i image os oi (g .asks) σ d inside;
+          size = sym size;
+          octets = all ∙ placed-inside next image _ (encodeNumber (some m)) (placeOf σ i) (omega (arith, copy-fits)) (omega arith) size held;
+        }
+
+-- the buffer that was written is a scratch image
+module _ {σ : Store} {d : List ℕ} {r : ℕ} {d′ : List ℕ} (w : Writes σ d r d′) (room : imageRoom ≤ length d) where
+  pub written-room : length d′ ≡ length d
+  written-room = ap length (w .octets) ∙ length-placed d 0 (encode σ) (omega (arith, encode-length σ (w .good)))
+
+  pub written-holds : Holds σ d′ r
+  written-holds =
+      let z : r ≡ 0 + length (encode σ) = omega (arith, w .size) in
+      record {
+        image = ap₂ take z (w .octets) ∙ take-behind-placed d 0 (encode σ) (omega arith);
+        inside = omega (arith, w .size, written-room, encode-length σ (w .good));
+        good = w .good;
+      }
+
+  pub written-scratch : Scratch d′ r
+  written-scratch = record { room = omega (arith, written-room); store = σ; holds = written-holds }

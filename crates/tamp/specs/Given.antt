@@ -8,6 +8,7 @@ use lib.ListN.{length}
 use lib.Dec.{leb, eqb}
 use Rattle.octets.specs.Limits.{replyRoom, imageRoom, maxMessage}
 use Rattle.octets.specs.Lists.{allOf}
+use Rattle.octets.specs.Octets.{placed}
 use Rattle.store.specs.Store.{Store, anchors}
 use Rattle.store.specs.Image.{encode, decode, wellFormed}
 use Rattle.store.specs.Parts.{anchorCount}
@@ -16,8 +17,6 @@ use Rattle.message.specs.declared.Received.the-variants.{Asks}
 use Rattle.message.specs.Rows.{received}
 use Rattle.message.specs.Fields.{seqNumIn}
 use Rattle.protocol.specs.Effect.{withNumber}
-use Rattle.syntax.specs.declared.TampType.{TampType}
-use Rattle.apply.specs.Scratch.{Holds, Scratch}
 
 -- 202, by the image's count of anchors
 abbrev pub isVerdict : List ℕ → List ℕ → Bool
@@ -41,18 +40,13 @@ pub record Signed (s : List ℕ) (q : Request) (i : ℕ) (image : List ℕ) : Ty
   pub decodes : decode image ≡ some store
   pub inside : i < length (anchors store)
 
--- the scratch d holds the store with the signer's number set, in its first r octets
+-- d with the image of σ written into it, r octets
+pub record Writes (σ : Store) (d : List ℕ) (r : ℕ) (d′ : List ℕ) : Type 0 where
+  pub good : wellFormed σ ≡ true
+  pub size : r ≡ length (encode σ)
+  pub octets : d′ ≡ placed d 0 (encode σ)
+
+-- .. the store of the image with the signer's number set
 abbrev pub Renumbers : List ℕ → Request → ℕ → List ℕ → List ℕ → ℕ → List ℕ → Type 0
 Renumbers s q i image d r d′ =
-    (length d′ ≡ length d)
-    × ((σ : Store) → decode image ≡ some σ → Holds (withNumber i (seqNumIn s (q .msgref)) σ) d′ r)
-
--- octets are the image of the well-formed store σ
-abbrev pub Encodes : Store → List ℕ → Type 0
-Encodes σ image = (wellFormed σ ≡ true) × (image ≡ encode σ)
-
--- s asks for an Update or a Community Update q, and the scratch d holds a store, with room for the largest image
-pub record Updating (s : List ℕ) (q : Request) (kind : TampType) (d : List ℕ) (len : ℕ) : Type 0 where
-  pub asks : received s ≡ Asks q
-  pub is : q .kind ≡ kind
-  pub scratch : Scratch d len
+    (σ : Store) → decode image ≡ some σ → Writes (withNumber i (seqNumIn s (q .msgref)) σ) d r d′

@@ -1,11 +1,14 @@
 -- What a call returns and leaves in the two lent buffers: by the code, and by the rule book.
 use Prim.Native.Nat.{ℕ}
 use mathlib.Core.List.{List}
+use mathlib.Core.Option.{some}
 use mathlib.Core.Path.{_≡_}
 use lib.ListN.{length}
 use Rattle.octets.specs.declared.Status.{Status}
-use Rattle.store.specs.Image.{encode}
-use Rattle.protocol.specs.Effect.{Effect}
+use Rattle.store.specs.Store.{Store}
+use Rattle.store.specs.Image.{encode, decode}
+use Rattle.message.specs.declared.Request.{Request}
+use Rattle.protocol.specs.Effect.{effect}
 use Rattle.protocol.specs.Call.{Outcome, answered, guarded, numberOf, replyOf, nextOf, replyBuffer, nextBuffer}
 use Rattle.tamp.specs.declared.Answer.{Answer}
 
@@ -43,6 +46,9 @@ answer status reply next = record { number = status .number; «reply_len» = rep
 abbrev pub Answers : Status → List ℕ → List ℕ → Answer → List ℕ → List ℕ → List ℕ → List ℕ → Type 0
 Answers status said store r reply next reply′ next′ = left r reply′ next′ ≡ leaves (guarded (answered status said store)) reply next
 
--- .. with those of an effect
-abbrev pub AnswersBy : Effect → Answer → List ℕ → List ℕ → List ℕ → List ℕ → Type 0
-AnswersBy e r reply next reply′ next′ = Answers (e .status) (e .reply) (encode (e .store)) r reply next reply′ next′
+-- .. to request q of the anchor at position i: by its effect on the store of the image
+abbrev pub AnswersTo : List ℕ → Request → ℕ → List ℕ → Answer → List ℕ → List ℕ → List ℕ → List ℕ → Type 0
+AnswersTo s q i image r reply next reply′ next′ =
+    (σ : Store) → decode image ≡ some σ →
+    let e = effect s q i σ in
+    Answers (e .status) (e .reply) (encode (e .store)) r reply next reply′ next′

@@ -11,17 +11,15 @@ ghost use Rattle.octets.specs.Lists.{allOf};
 ghost use Rattle.octets.specs.Octets.{placed};
 ghost use Rattle.octets.specs.Status.{success};
 ghost use Rattle.der.specs.Element.{whole as wholeOf, contents as contentsOf};
-ghost use Rattle.syntax.specs.declared.TampType.the-variants.{CommunityUpdate, Update};
+ghost use Rattle.syntax.specs.declared.TampType.the-variants.{StatusQuery, Update, CommunityUpdate, SeqNumAdjust};
 ghost use Rattle.store.specs.Store.{Store};
 ghost use Rattle.store.specs.Image.{decode};
 ghost use Rattle.reply.specs.Replies.{tampError, updateConfirm};
 ghost use Rattle.reply.specs.Parts.{statusOf};
 ghost use Rattle.protocol.specs.Acceptance.{judgement};
-ghost use Rattle.protocol.specs.Effect.{queryEffect, adjustEffect, communityEffect, updateEffect, effect};
 ghost use Rattle.protocol.specs.Call.{answerOf, guarded, refusalReply, call};
-ghost use Rattle.apply.specs.Scratch.{Holds, signerRights};
-ghost use Rattle.tamp.specs.Left.{left, leaves, refusal as refusalOf, answer as answerWith, Answers, AnswersBy};
-ghost use Rattle.tamp.specs.Given.{isVerdict, Rooms, Stored, Signed, Renumbers, Encodes, Updating};
+ghost use Rattle.tamp.specs.Left.{left, leaves, refusal as refusalOf, answer as answerWith, Answers, AnswersTo};
+ghost use Rattle.tamp.specs.Given.{isVerdict, Rooms, Stored, Signed, Renumbers};
 use der::Element;
 use envelope::Refusal;
 use message::Request;
@@ -168,46 +166,98 @@ fn refuse(s: &[u8], r: Refusal, image: &[u8], reply: &mut [u8], next: &mut [u8])
     error(s, about, status, r.msgref, image, reply, next)
 }
 
-// Query: "identifiers in store order, then communities unless there are none".
-fn query<'a>(s: &'a [u8], q: Request, store: &'a [u8], reply: &mut [u8], next: &mut [u8]) -> Answer
-    requires { ⌜ Rooms (now s) (now reply) (now next) × (length (now store) ≤ imageRoom) ⌝ }
+// "its number becomes the signer's": writes the image with it. Gives its length.
+fn renumber(s: &[u8], q: Request, i: usize, image: &[u8], next: &mut [u8]) -> usize
+    requires { ⌜ Signed (now s) q i (now image) × (imageRoom ≤ length (now next)) ⌝ }
+    ensures { λ r. ⌜ Renumbers (now (s .entry)) q i (now (image .entry)) (now (next .entry)) r (now (next .exit)) ⌝ }
+{
+    octets::copy_to(next, 0, image);
+    let n = message::number_in(s, der::field(s, q.msgref, 0x02));
+    edit::set_number(next, store::record_place(image, i), n);
+    image.len()
+}
+
+// Query: "identifiers in store order, then communities unless there are none". Numbers are no part of it: its size is that of the image as given.
+fn query(s: &[u8], q: Request, i: usize, image: &[u8], reply: &mut [u8], next: &mut [u8]) -> Answer
+    requires { ⌜ Rooms (now s) (now reply) (now next) × Signed (now s) q i (now image) × (q .kind ≡ StatusQuery) ⌝ }
     ensures { λ r.
-        ⌜ ((σ : Store) → Encodes σ (now (store .entry)) →
-        AnswersBy
-        (queryEffect (now (s .entry)) q σ)
+        ⌜ AnswersTo
+        (now (s .entry))
+        q
+        i
+        (now (image .entry))
         r
         (now (reply .entry))
         (now (next .entry))
         (now (reply .exit))
-        (now (next .exit))) ⌝ }
+        (now (next .exit)) ⌝ }
 {
     let msgref = der::whole(s, q.msgref);
-    if REPLY_ROOM < reply::response_size(msgref, store) {
+    if REPLY_ROOM < reply::response_size(msgref, image) {
         return Answer::refusal(Status::LONG_REPLY);
     }
-    let n = reply::put_status_response(reply, msgref, store);
-    finish(Status::SUCCESS, n, store, next)
+    let k = renumber(s, q, i, image, next);
+    let n = reply::put_status_response(reply, msgref, &next[..k]);
+    Answer::reply(Status::SUCCESS, n, k)
 }
 
 // Adjust: 0.
-fn adjust(s: &[u8], q: Request, store: &[u8], reply: &mut [u8], next: &mut [u8]) -> Answer
-    requires { ⌜ Rooms (now s) (now reply) (now next) × (length (now store) ≤ imageRoom) ⌝ }
+fn adjust(s: &[u8], q: Request, i: usize, image: &[u8], reply: &mut [u8], next: &mut [u8]) -> Answer
+    requires { ⌜ Rooms (now s) (now reply) (now next) × Signed (now s) q i (now image) × (q .kind ≡ SeqNumAdjust) ⌝ }
     ensures { λ r.
-        ⌜ ((σ : Store) → Encodes σ (now (store .entry)) →
-        AnswersBy
-        (adjustEffect (now (s .entry)) q σ)
+        ⌜ AnswersTo
+        (now (s .entry))
+        q
+        i
+        (now (image .entry))
         r
         (now (reply .entry))
         (now (next .entry))
         (now (reply .exit))
-        (now (next .exit))) ⌝ }
+        (now (next .exit)) ⌝ }
 {
     let msgref = der::whole(s, q.msgref);
     if REPLY_ROOM < reply::confirm_size(msgref) {
         return Answer::refusal(Status::LONG_REPLY);
     }
     let n = reply::put_adjust_confirm(reply, msgref);
-    finish(Status::SUCCESS, n, store, next)
+    let k = renumber(s, q, i, image, next);
+    Answer::reply(Status::SUCCESS, n, k)
+}
+
+// Community Update: "call and confirm carry the code". It is made on a scratch image.
+fn community(
+    s: &[u8],
+    q: Request,
+    i: usize,
+    image: &[u8],
+    reply: &mut [u8],
+    next: &mut [u8],
+) -> Answer
+    requires { ⌜ Rooms (now s) (now reply) (now next) × Signed (now s) q i (now image) × (q .kind ≡ CommunityUpdate) ⌝ }
+    ensures { λ r.
+        ⌜ AnswersTo
+        (now (s .entry))
+        q
+        i
+        (now (image .entry))
+        r
+        (now (reply .entry))
+        (now (next .entry))
+        (now (reply .exit))
+        (now (next .exit)) ⌝ }
+{
+    let mut work = [0u8; 33717];
+    let len = renumber(s, q, i, image, &mut work);
+    let done = apply::community_update(s, q, &mut work, len);
+    let end = done.len;
+    let status = done.status;
+    let msgref = der::whole(s, q.msgref);
+    if REPLY_ROOM < reply::confirm_size(msgref) {
+        return Answer::refusal(Status::LONG_REPLY);
+    }
+    let n = reply::put_community_confirm(reply, msgref, status);
+    finish(status, n, &work[..end], next)
 }
 
 // The confirm of an Update, a status octet for each entry.
@@ -239,70 +289,23 @@ fn confirm<'a>(
     finish(Status::SUCCESS, n, store, next)
 }
 
-// "its number becomes the signer's": the image with it, in scratch. Gives the length.
-fn renumber(s: &[u8], q: Request, i: usize, image: &[u8], work: &mut [u8]) -> usize
-    requires { ⌜ Signed (now s) q i (now image) × (imageRoom ≤ length (now work)) ⌝ }
-    ensures { λ r. ⌜ Renumbers (now (s .entry)) q i (now (image .entry)) (now (work .entry)) r (now (work .exit)) ⌝ }
-{
-    octets::copy_to(work, 0, image);
-    let n = message::number_in(s, der::field(s, q.msgref, 0x02));
-    edit::set_number(work, store::record_place(image, i), n);
-    image.len()
-}
-
-// Community Update: "call and confirm carry the code".
-fn community(
-    s: &[u8],
-    q: Request,
-    work: &mut [u8],
-    len: usize,
-    reply: &mut [u8],
-    next: &mut [u8],
-) -> Answer
-    requires { ⌜ Rooms (now s) (now reply) (now next) × Updating (now s) q CommunityUpdate (now work) len ⌝ }
+// Update: over 16 entries 17 for the message as a whole, by TAMP Error; else each entry in turn on a scratch image, by the signer's rights in the image as given.
+fn update(s: &[u8], q: Request, i: usize, image: &[u8], reply: &mut [u8], next: &mut [u8]) -> Answer
+    requires { ⌜ Rooms (now s) (now reply) (now next) × Signed (now s) q i (now image) × (q .kind ≡ Update) ⌝ }
     ensures { λ r.
-        ⌜ ((σ : Store) → Holds σ (now (work .entry)) len →
-        AnswersBy
-        (communityEffect (now (s .entry)) q σ)
+        ⌜ AnswersTo
+        (now (s .entry))
+        q
+        i
+        (now (image .entry))
         r
         (now (reply .entry))
         (now (next .entry))
         (now (reply .exit))
-        (now (next .exit))) ⌝ }
+        (now (next .exit)) ⌝ }
 {
-    let done = apply::community_update(s, q, work, len);
-    let end = done.len;
-    let status = done.status;
-    let msgref = der::whole(s, q.msgref);
-    if REPLY_ROOM < reply::confirm_size(msgref) {
-        return Answer::refusal(Status::LONG_REPLY);
-    }
-    let n = reply::put_community_confirm(reply, msgref, status);
-    finish(status, n, &work[..end], next)
-}
-
-// Update: over 16 entries 17 for the message as a whole, by TAMP Error; else each entry in turn, by the rights of the anchor at position i of the image.
-fn update(
-    s: &[u8],
-    q: Request,
-    image: &[u8],
-    i: usize,
-    work: &mut [u8],
-    len: usize,
-    reply: &mut [u8],
-    next: &mut [u8],
-) -> Answer
-    requires { ⌜ Rooms (now s) (now reply) (now next) × Updating (now s) q Update (now work) len ⌝ }
-    ensures { λ r.
-        ⌜ ((σ : Store) → Holds σ (now (work .entry)) len →
-        AnswersBy
-        (updateEffect (now (s .entry)) q (signerRights (now (image .entry)) i) σ)
-        r
-        (now (reply .entry))
-        (now (next .entry))
-        (now (reply .exit))
-        (now (next .exit))) ⌝ }
-{
+    let mut work = [0u8; 33717];
+    let len = renumber(s, q, i, image, &mut work);
     let count = message::count(s, message::updates_in(s, q.body, q.msgref));
     if MAX_UPDATES < count {
         return error(
@@ -316,7 +319,7 @@ fn update(
         );
     }
     let mut codes = [0u8; 16];
-    let end = apply::update(s, q, image, i, work, len, &mut codes);
+    let end = apply::update(s, q, image, i, &mut work, len, &mut codes);
     confirm(s, q, &codes[..count], &work[..end], reply, next)
 }
 
@@ -331,23 +334,23 @@ fn accepted(
 ) -> Answer
     requires { ⌜ Rooms (now s) (now reply) (now next) × Signed (now s) q i (now image) ⌝ }
     ensures { λ r.
-        ⌜ ((σ : Store) → decode (now (image .entry)) ≡ some σ →
-        AnswersBy
-        (effect (now (s .entry)) q i σ)
+        ⌜ AnswersTo
+        (now (s .entry))
+        q
+        i
+        (now (image .entry))
         r
         (now (reply .entry))
         (now (next .entry))
         (now (reply .exit))
-        (now (next .exit))) ⌝ }
+        (now (next .exit)) ⌝ }
 {
-    let mut work = [0u8; 33717];
-    let len = renumber(s, q, i, image, &mut work);
     let kind = q.kind;
     match kind {
-        TampType::StatusQuery => query(s, q, &work[..len], reply, next),
-        TampType::Update => update(s, q, image, i, &mut work, len, reply, next),
-        TampType::CommunityUpdate => community(s, q, &mut work, len, reply, next),
-        TampType::SeqNumAdjust => adjust(s, q, &work[..len], reply, next),
+        TampType::StatusQuery => query(s, q, i, image, reply, next),
+        TampType::Update => update(s, q, i, image, reply, next),
+        TampType::CommunityUpdate => community(s, q, i, image, reply, next),
+        TampType::SeqNumAdjust => adjust(s, q, i, image, reply, next),
     }
 }
 

@@ -2,7 +2,7 @@
 use borrow.Author.Needs.{needs}
 use mathlib.Core.Path.{refl, sym, _∙_}
 use Rattle.protocol.specs.Acceptance.{foundStatus, bySigner}
-use Rattle.accept.proofs.Rows.{judge-refused, judge-by, found-anchor}
+use Rattle.accept.proofs.Rows.{judge-refused, judge-by, found-record}
 use Rattle.accept.proofs.judge.Statement.{statement}
 use Rattle.accept.proofs.judge.Tie as tie
 
@@ -40,32 +40,32 @@ weigh-requires : tie.Need-weigh-requires
 weigh-requires c κs = search needs
 
 returns : tie.Need-returns
-returns c σ d = judge-refused σ _ _ (sym (c .before .before .before .receive .ensures) ∙ c .before .r .given .1)
+returns c = judge-refused _ _ _ (sym (c .before .before .before .receive .ensures) ∙ c .before .r .given .1)
 
 returns-2 : tie.Need-returns-2
 unfolding bySigner foundStatus
-returns-2 c σ d =
+returns-2 c =
     let asks = sym (c .before .before .before .before .before .before .before .before .receive .ensures) ∙ c .before .before .before .before .before .before .q .given .1 in
     let wanted = c .before .before .before .before .key-identifier .ensures in
     let sought = c .before .before .before .find-signer .ensures in
-    c .refuse .ensures ∙ judge-by σ _ _ _ d asks wanted sought (c .before .enum-told .given .1)
+    c .refuse .ensures ∙ judge-by _ _ _ asks wanted sought (c .before .enum-told .given .1)
 
 returns-3 : tie.Need-returns-3
 unfolding bySigner foundStatus
-returns-3 c σ d =
+returns-3 c =
     let asks = sym (c .before .before .before .before .before .before .before .before .receive .ensures) ∙ c .before .before .before .before .before .before .q .given .1 in
     let wanted = c .before .before .before .before .key-identifier .ensures in
     let sought = c .before .before .before .find-signer .ensures in
-    c .refuse2 .ensures ∙ judge-by σ _ _ _ d asks wanted sought (c .before .enum-told2 .given .1)
+    c .refuse2 .ensures ∙ judge-by _ _ _ asks wanted sought (c .before .enum-told2 .given .1)
 
 returns-4 : tie.Need-returns-4
 unfolding bySigner
-returns-4 c σ d =
+returns-4 c =
     let asks = sym (c .before .before .before .before .before .before .before .before .before .receive .ensures) ∙ c .before .before .before .before .before .before .before .q .given .1 in
     let wanted = c .before .before .before .before .before .key-identifier .ensures in
     let sought = c .before .before .before .before .find-signer .ensures in
     let at = c .before .before .i .given .1 in
-    c .weigh .ensures asks σ d (found-anchor σ _ _ _ d asks wanted sought at refl) ∙ judge-by σ _ _ _ d asks wanted sought at
+    c .weigh .ensures asks (found-record _ _ _ asks wanted sought at refl) ∙ judge-by _ _ _ asks wanted sought at
 
 pub judge-spec : {M : Type 1} → statement M
 judge-spec =

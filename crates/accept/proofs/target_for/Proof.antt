@@ -1,7 +1,6 @@
 -- `accept::target_for` meets its contract. Assumes nothing.
 use borrow.Author.Needs.{needs}
 use mathlib.Core.Path.{_∙_}
-use native.Mathlib.Omega.{arith}
 use Rattle.accept.proofs.Rows.{target-for}
 use Rattle.accept.proofs.target_for.Statement.{statement}
 use Rattle.accept.proofs.target_for.Tie as tie
@@ -22,9 +21,9 @@ judge-target-requires : tie.Need-judge-target-requires
 judge-target-requires c κs = search needs
 
 returns : tie.Need-returns
-returns c σ d =
+returns c =
     c .judge-target .ensures
-    ∙ target-for _ σ d (λ i. omega (arith, c .before .before .before .before .before .before .shared-slice-known .given i)) _ _
+    ∙ target-for _ _ _
     (c .before .before .before .before .hw-type .ensures)
     (c .before .before .before .serial .ensures)
     (c .before .before .community-octets .ensures)

@@ -18,9 +18,9 @@ refuse-requires c κs = search needs
 
 returns : tie.Need-returns
 unfolding isNamed targetStatus
-returns c asks σ d below =
-    let target = sym (c .before .before .before .target-for .ensures σ d) ∙ c .before .enum-told .given .1 in
-    c .refuse .ensures ∙ sym (weigh-target σ _ _ _ target refl)
+returns c asks below =
+    let target = sym (c .before .before .before .target-for .ensures) ∙ c .before .enum-told .given .1 in
+    c .refuse .ensures ∙ sym (weigh-target _ _ _ _ target refl)
 
 enum-told-2 : tie.Need-enum-told-2
 enum-told-2 c = search needs
@@ -30,9 +30,9 @@ refuse-requires-2 c κs = search needs
 
 returns-2 : tie.Need-returns-2
 unfolding isNamed targetStatus
-returns-2 c asks σ d below =
-    let target = sym (c .before .before .before .target-for .ensures σ d) ∙ c .before .enum-told2 .given .1 in
-    c .refuse2 .ensures ∙ sym (weigh-target σ _ _ _ target refl)
+returns-2 c asks below =
+    let target = sym (c .before .before .before .target-for .ensures) ∙ c .before .enum-told2 .given .1 in
+    c .refuse2 .ensures ∙ sym (weigh-target _ _ _ _ target refl)
 
 enum-told-3 : tie.Need-enum-told-3
 enum-told-3 c = search needs
@@ -44,10 +44,10 @@ refuse-requires-3 : tie.Need-refuse-requires-3
 refuse-requires-3 c κs = search needs
 
 returns-3 : tie.Need-returns-3
-returns-3 c asks σ d below =
-    let named = sym (c .before .before .before .before .before .target-for .ensures σ d) ∙ c .before .before .before .enum-told3 .given .1 in
-    let rights = store-11 _ σ d _ _ _ below (c .before .before .is-unauthorised .ensures) (c .before .if1 .taken) in
-    c .refuse3 .ensures ∙ sym (weigh-11 σ _ _ _ named rights)
+returns-3 c asks below =
+    let named = sym (c .before .before .before .before .before .target-for .ensures) ∙ c .before .before .before .enum-told3 .given .1 in
+    let rights = store-11 _ _ _ _ below (c .before .before .is-unauthorised .ensures) (c .before .if1 .taken) in
+    c .refuse3 .ensures ∙ sym (weigh-11 _ _ _ _ named rights)
 
 is-number-refused-requires : tie.Need-is-number-refused-requires
 is-number-refused-requires c κs = search needs
@@ -56,18 +56,18 @@ refuse-requires-4 : tie.Need-refuse-requires-4
 refuse-requires-4 c κs = search needs
 
 returns-4 : tie.Need-returns-4
-returns-4 c asks σ d below =
-    let named = sym (c .before .before .before .before .before .before .before .target-for .ensures σ d) ∙ c .before .before .before .before .before .enum-told3 .given .1 in
-    let rights = store-11 _ σ d _ _ _ below (c .before .before .before .before .is-unauthorised .ensures) (c .before .before .before .if1 .left) in
-    let number = store-21 _ σ d _ _ _ below (c .before .before .is-number-refused .ensures asks) (c .before .if2 .taken) in
-    c .refuse4 .ensures ∙ sym (weigh-21 σ _ _ _ named rights number)
+returns-4 c asks below =
+    let named = sym (c .before .before .before .before .before .before .before .target-for .ensures) ∙ c .before .before .before .before .before .enum-told3 .given .1 in
+    let rights = store-11 _ _ _ _ below (c .before .before .before .before .is-unauthorised .ensures) (c .before .before .before .if1 .left) in
+    let number = store-21 _ _ _ _ below (c .before .before .is-number-refused .ensures asks) (c .before .if2 .taken) in
+    c .refuse4 .ensures ∙ sym (weigh-21 _ _ _ _ named rights number)
 
 returns-5 : tie.Need-returns-5
-returns-5 c asks σ d below =
-    let named = sym (c .before .before .before .before .before .before .target-for .ensures σ d) ∙ c .before .before .before .before .enum-told3 .given .1 in
-    let rights = store-11 _ σ d _ _ _ below (c .before .before .before .is-unauthorised .ensures) (c .before .before .if1 .left) in
-    let number = store-21 _ σ d _ _ _ below (c .before .is-number-refused .ensures asks) (c .if2 .left) in
-    sym (weigh-accepts σ _ _ _ named rights number)
+returns-5 c asks below =
+    let named = sym (c .before .before .before .before .before .before .target-for .ensures) ∙ c .before .before .before .before .enum-told3 .given .1 in
+    let rights = store-11 _ _ _ _ below (c .before .before .before .is-unauthorised .ensures) (c .before .before .if1 .left) in
+    let number = store-21 _ _ _ _ below (c .before .is-number-refused .ensures asks) (c .if2 .left) in
+    sym (weigh-accepts _ _ _ _ named rights number)
 
 pub weigh-spec : {M : Type 1} → statement M
 weigh-spec =

@@ -18,44 +18,59 @@ is-within-signer-requires c κs = search needs
 returns-2 : tie.Need-returns-2
 returns-2 c = add-outside _ _ _ _ (c .before .before .before .before .judged .ensures) (c .before .before .if1 .left) (c .before .is-within-signer .ensures) (not-true _ (c .if2 .taken))
 
-slice-reshare-prefix-is-stored : tie.Need-slice-reshare-prefix-is-stored
-slice-reshare-prefix-is-stored c = search needs
+slice-reshare-prefix-find : tie.Need-slice-reshare-prefix-find
+slice-reshare-prefix-find c = search needs
 
-slice-aggregate-is-stored : tie.Need-slice-aggregate-is-stored
-slice-aggregate-is-stored c = sym (length-take-le _ _ (c .before .before .before .before .before .before .before .before .before .pre .0 .holds .inside))
+slice-aggregate-find : tie.Need-slice-aggregate-find
+slice-aggregate-find c = sym (length-take-le _ _ (c .before .before .before .before .before .before .before .before .before .pre .0 .holds .inside))
 
-is-stored-requires : tie.Need-is-stored-requires
-is-stored-requires c κs = search needs
+public-key-requires : tie.Need-public-key-requires
+public-key-requires c κs = search needs
+
+find-requires : tie.Need-find-requires
+find-requires c κs = search needs
+
+enum-known-p : tie.Need-enum-known-p
+enum-known-p c = search needs
+
+slice-reshare-prefix-info-at : tie.Need-slice-reshare-prefix-info-at
+slice-reshare-prefix-info-at c = search needs
+
+slice-aggregate-info-at : tie.Need-slice-aggregate-info-at
+slice-aggregate-info-at c = sym (length-take-le _ _ (c .before .before .before .before .before .before .before .before .before .before .before .before .before .before .before .pre .0 .holds .inside))
+
+info-at-requires : tie.Need-info-at-requires
+info-at-requires c κs = search needs
+
+equal-requires : tie.Need-equal-requires
+equal-requires c κs = search needs
 
 same-length : tie.Need-same-length
 same-length c = search needs
 
 returns-3 : tie.Need-returns-3
-returns-3 c = add-same _ _ _ _ (c .before .before .before .before .before .before .before .judged .ensures) (c .before .before .before .before .before .if1 .left) (c .before .before .before .before .is-within-signer .ensures) (not-false _ (c .before .before .before .if2 .left)) (c .before .is-stored .ensures) (c .if3 .taken)
-
-slice-reshare-prefix-is-stored-2 : tie.Need-slice-reshare-prefix-is-stored-2
-slice-reshare-prefix-is-stored-2 c = search needs
-
-slice-aggregate-is-stored-2 : tie.Need-slice-aggregate-is-stored-2
-slice-aggregate-is-stored-2 c = sym (length-take-le _ _ (c .before .before .before .before .before .before .before .before .before .before .before .before .pre .0 .holds .inside))
-
-public-key-requires : tie.Need-public-key-requires
-public-key-requires c κs = search needs
-
-is-stored-requires-2 : tie.Need-is-stored-requires-2
-is-stored-requires-2 c κs = search needs
+returns-3 c =
+    let k = c .before .before .before .before .before .before .before in
+    let s = k .before .before .before in
+    add-same _ _ _ _ (s .before .before .before .before .judged .ensures) (s .before .before .if1 .left) (s .before .is-within-signer .ensures) (not-false _ (s .if2 .left)) (k .before .public-key .ensures) (k .find .ensures) (c .before .before .before .before .before .p .given .1) (c .before .before .info-at .ensures) (c .before .equal .ensures) (c .if3 .taken)
 
 same-length-2 : tie.Need-same-length-2
 same-length-2 c = search needs
 
 returns-4 : tie.Need-returns-4
-returns-4 c = add-key _ _ _ _ (c .before .before .before .before .before .before .before .before .before .before .before .judged .ensures) (c .before .before .before .before .before .before .before .before .before .if1 .left) (c .before .before .before .before .before .before .before .before .is-within-signer .ensures) (not-false _ (c .before .before .before .before .before .before .before .if2 .left)) (c .before .before .before .before .before .is-stored .ensures) (c .before .before .before .before .if3 .left) (c .before .before .public-key .ensures) (c .before .is-stored2 .ensures) (c .if4 .taken)
+returns-4 c =
+    let k = c .before .before .before .before .before .before .before in
+    let s = k .before .before .before in
+    add-key _ _ _ _ (s .before .before .before .before .judged .ensures) (s .before .before .if1 .left) (s .before .is-within-signer .ensures) (not-false _ (s .if2 .left)) (k .before .public-key .ensures) (k .find .ensures) (c .before .before .before .before .before .p .given .1) (c .before .before .info-at .ensures) (c .before .equal .ensures) (c .if3 .left)
+
+enum-told : tie.Need-enum-told
+enum-told c = search needs
 
 slice-reshare-prefix-anchor-count : tie.Need-slice-reshare-prefix-anchor-count
 slice-reshare-prefix-anchor-count c = search needs
 
 slice-aggregate-anchor-count : tie.Need-slice-aggregate-anchor-count
-slice-aggregate-anchor-count c = sym (length-take-le _ _ (c .before .before .before .before .before .before .before .before .before .before .before .before .before .before .before .before .pre .0 .holds .inside))
+slice-aggregate-anchor-count c = sym (length-take-le _ _ (c .before .before .before .before .before .before .before .before .before .before .before .before .before .before .pre .0 .holds .inside))
 
 anchor-count-requires : tie.Need-anchor-count-requires
 anchor-count-requires c κs = search needs
@@ -64,16 +79,25 @@ same-length-3 : tie.Need-same-length-3
 same-length-3 c = search needs
 
 returns-5 : tie.Need-returns-5
-returns-5 c = add-full _ _ _ _ (c .before .before .before .before .before .before .before .before .before .before .before .before .before .before .judged .ensures) (c .before .before .before .before .before .before .before .before .before .before .before .before .if1 .left) (c .before .before .before .before .before .before .before .before .before .before .before .is-within-signer .ensures) (not-false _ (c .before .before .before .before .before .before .before .before .before .before .if2 .left)) (c .before .before .before .before .before .before .before .before .is-stored .ensures) (c .before .before .before .before .before .before .before .if3 .left) (c .before .before .before .before .before .public-key .ensures) (c .before .before .before .before .is-stored2 .ensures) (c .before .before .before .if4 .left) (c .before .anchor-count .ensures) (c .if5 .taken)
+returns-5 c =
+    let k = c .before .before .before .before .before in
+    let s = k .before .before .before in
+    add-full _ _ _ _ (s .before .before .before .before .judged .ensures) (s .before .before .if1 .left) (s .before .is-within-signer .ensures) (not-false _ (s .if2 .left)) (k .before .public-key .ensures) (k .find .ensures) (c .before .before .before .enum-told .given .1) (c .before .anchor-count .ensures) (c .if4 .taken)
 
 append-requires : tie.Need-append-requires
-append-requires c κs = add-grows _ _ _ _ (c .before .before .before .before .before .before .before .before .before .before .before .before .before .before .before .judged .ensures) (c .before .before .before .before .before .before .before .before .before .before .before .before .before .if1 .left) (c .before .before .before .before .before .before .before .before .before .before .before .before .is-within-signer .ensures) (not-false _ (c .before .before .before .before .before .before .before .before .before .before .before .if2 .left)) (c .before .before .before .before .before .before .before .before .before .is-stored .ensures) (c .before .before .before .before .before .before .before .before .if3 .left) (c .before .before .before .before .before .before .public-key .ensures) (c .before .before .before .before .before .is-stored2 .ensures) (c .before .before .before .before .if4 .left) (c .before .before .anchor-count .ensures) (c .before .if5 .left) (c .before .before .before .before .before .before .before .before .before .before .before .before .before .before .before .before .before .before .before .pre .1) (c .before .before .before .before .before .before .before .before .before .before .before .before .before .before .before .before .before .before .before .pre .0)
+append-requires c κs =
+    let k = c .before .before .before .before .before .before in
+    let s = k .before .before .before in
+    add-grows _ _ _ _ (s .before .before .before .before .judged .ensures) (s .before .before .if1 .left) (s .before .is-within-signer .ensures) (not-false _ (s .if2 .left)) (k .before .public-key .ensures) (k .find .ensures) (c .before .before .before .before .enum-told .given .1) (c .before .before .anchor-count .ensures) (c .before .if4 .left) (c .before .before .before .before .before .before .before .before .before .before .before .before .before .before .before .before .before .pre .1) (c .before .before .before .before .before .before .before .before .before .before .before .before .before .before .before .before .before .pre .0)
 
 same-length-4 : tie.Need-same-length-4
 same-length-4 c = search needs
 
 returns-6 : tie.Need-returns-6
-returns-6 c = add-appends _ _ _ _ (c .before .before .before .before .before .before .before .before .before .before .before .before .before .before .before .before .before .before .judged .ensures) (c .before .before .before .before .before .before .before .before .before .before .before .before .before .before .before .before .if1 .left) (c .before .before .before .before .before .before .before .before .before .before .before .before .before .before .before .is-within-signer .ensures) (not-false _ (c .before .before .before .before .before .before .before .before .before .before .before .before .before .before .if2 .left)) (c .before .before .before .before .before .before .before .before .before .before .before .before .is-stored .ensures) (c .before .before .before .before .before .before .before .before .before .before .before .if3 .left) (c .before .before .before .before .before .before .before .before .before .public-key .ensures) (c .before .before .before .before .before .before .before .before .is-stored2 .ensures) (c .before .before .before .before .before .before .before .if4 .left) (c .before .before .before .before .before .anchor-count .ensures) (c .before .before .before .before .if5 .left) (c .before .before .before .before .before .before .before .before .before .before .before .before .before .before .before .before .before .before .before .before .before .before .pre .1) (c .before .before .append .ensures)
+returns-6 c =
+    let k = c .before .before .before .before .before .before .before .before .before in
+    let s = k .before .before .before in
+    add-appends _ _ _ _ (s .before .before .before .before .judged .ensures) (s .before .before .if1 .left) (s .before .is-within-signer .ensures) (not-false _ (s .if2 .left)) (k .before .public-key .ensures) (k .find .ensures) (c .before .before .before .before .before .before .before .enum-told .given .1) (c .before .before .before .before .before .anchor-count .ensures) (c .before .before .before .before .if4 .left) (c .before .before .before .before .before .before .before .before .before .before .before .before .before .before .before .before .before .before .before .before .pre .1) (c .before .before .append .ensures)
 
 pub add-spec : {M : Type 1} → statement M
 add-spec =
@@ -83,17 +107,20 @@ add-spec =
     returns
     is-within-signer-requires
     returns-2
-    slice-reshare-prefix-is-stored
-    slice-aggregate-is-stored
-    is-stored-requires
+    slice-reshare-prefix-find
+    slice-aggregate-find
+    public-key-requires
+    find-requires
+    enum-known-p
+    slice-reshare-prefix-info-at
+    slice-aggregate-info-at
+    info-at-requires
+    equal-requires
     same-length
     returns-3
-    slice-reshare-prefix-is-stored-2
-    slice-aggregate-is-stored-2
-    public-key-requires
-    is-stored-requires-2
     same-length-2
     returns-4
+    enum-told
     slice-reshare-prefix-anchor-count
     slice-aggregate-anchor-count
     anchor-count-requires

@@ -22,12 +22,6 @@ public-key-requires-2 c κs = search needs
 is-tagged-requires : tie.Need-is-tagged-requires
 is-tagged-requires c κs = search needs
 
-enum-told-3 : tie.Need-enum-told-3
-enum-told-3 c = search needs
-
-equal-requires-2 : tie.Need-equal-requires-2
-equal-requires-2 c κs = search needs
-
 returns : tie.Need-returns
 unfolding isSought
 returns c = rw (c .before .before .enum-told .given .1, c .equal .ensures, c .before .public-key .ensures)
@@ -35,10 +29,6 @@ returns c = rw (c .before .before .enum-told .given .1, c .equal .ensures, c .be
 returns-2 : tie.Need-returns-2
 unfolding isSought
 returns-2 c = rw (c .before .before .enum-told2 .given .1, c .is-tagged .ensures, c .before .public-key2 .ensures)
-
-returns-3 : tie.Need-returns-3
-unfolding isSought
-returns-3 c = rw (c .before .enum-told3 .given .1, c .equal2 .ensures)
 
 pub is-sought-spec : {M : Type 1} → statement M
 is-sought-spec =
@@ -50,8 +40,5 @@ is-sought-spec =
     enum-told-2
     public-key-requires-2
     is-tagged-requires
-    enum-told-3
-    equal-requires-2
     returns
-    returns-2
-    returns-3)
+    returns-2)

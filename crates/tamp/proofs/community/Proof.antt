@@ -1,89 +1,110 @@
 -- `tamp::community` meets its contract. Assumes nothing.
-use mathlib.Core.Path.{sym}
 use native.Mathlib.Omega.{arith}
+use mathlib.Core.Path.{sym}
 use lib.Seq.{length-take-le}
-use Rattle.protocol.specs.Effect.{communityEffect}
-use Rattle.store.specs.Image.{encode}
-use Rattle.tamp.proofs.Answers.{too-long, written, as-status}
+use Rattle.apply.specs.Scratch.{Scratch}
 use Rattle.tamp.proofs.Parts.{whole-fits}
-use Rattle.tamp.proofs.Effects.{held-short, community-said, status-small}
+use Rattle.tamp.proofs.Signers.{written-scratch}
+use Rattle.tamp.proofs.Effects.{held-short, status-small, community-long, community-written}
 use borrow.Author.Needs.{needs}
 use Rattle.tamp.proofs.community.Statement.{statement}
 use Rattle.tamp.proofs.community.Tie as tie
 
+abbrev start : tie.After-renumber → tie.Start
+start c = c .before .before .before .before .before .before
+
+-- the scratch image, with the signer's number, and as the lists left it
+numbered : (c : tie.After-renumber) → Scratch (c .renumber .last .1 .1 .1 .1 .0) (c .renumber .result)
+numbered c = let p = start c .pre in written-scratch (c .renumber .ensures (p .1 .store) (p .1 .decodes)) (omega arith)
+
+after : (c : tie.After-community-update) → Scratch (c .community-update .last .1 .1 .0) (c .community-update .result .len)
+after c = let w = numbered (c .before .before .before) in let d = c .community-update .ensures in
+    record { room = omega (arith, w .room, d .room); store = _; holds = d .store (w .store) (w .holds) }
+
+slice-aggregate-renumber : tie.Need-slice-aggregate-renumber
+slice-aggregate-renumber c = search needs
+
+renumber-requires : tie.Need-renumber-requires
+renumber-requires c κs = search needs
+
+slice-aggregate-community-update : tie.Need-slice-aggregate-community-update
+slice-aggregate-community-update c = search needs
+
 community-update-requires : tie.Need-community-update-requires
-community-update-requires c κs = search needs
+community-update-requires c κs = let p = start (c .before .before) .pre in record { asked = p .1 .asks; update = p .2; scratch = numbered (c .before .before) }
 
 whole-requires : tie.Need-whole-requires
 whole-requires c κs = search needs
 
 confirm-size-requires : tie.Need-confirm-size-requires
-confirm-size-requires c κs = let a = c .before .before .before .before .before .before .before .before .before .before .args in whole-fits (a .s .now) (a .q .msgref) (c .before .before .before .before .before .before .before .before .before .before .pre .0 .message) (c .whole .ensures)
+confirm-size-requires c κs = let k = c .before .before .before .before .before .before in let a = start k .args in let p = start k .pre in
+    whole-fits (a .s .now) (a .q .msgref) (p .0 .message) (c .whole .ensures)
 
 refusal-requires : tie.Need-refusal-requires
 refusal-requires c κs = search needs
 
-same-length : tie.Need-same-length
-same-length c = search needs
-
 returns : tie.Need-returns
-returns c σ h = let a = c .before .before .before .before .before .before .before .before .before .before .before .before .before .args in let e = communityEffect (a .s .now) (a .q) σ in
-    too-long (e .status) (e .reply) (encode (e .store)) (a .reply .now) (a .next .now)
-    (community-said (a .s .now) (a .q) σ (c .before .before .before .whole .ensures) (c .before .before .before .before .before .before .before .community-update .ensures .status σ h))
-    (c .before .before .confirm-size .ensures .0 (c .before .before .before .before .before .before .before .community-update .result .status))
+returns c = let k = c .before .before .before .before .before .before .before .before .before in let a = start k .args in let p = start k .pre in let d = c .before .before .before .before .before .before .community-update in
+    community-long (a .s .now) (a .q) (a .i) (a .image .now) (a .reply .now) (a .next .now) (p .2)
+    (k .renumber .ensures)
+    (omega arith)
+    (d .ensures)
+    (c .before .before .before .whole .ensures)
+    (c .before .before .confirm-size .ensures .0 (d .result .status))
     (c .before .if1 .taken)
     (c .refusal .ensures)
 
 put-community-confirm-requires : tie.Need-put-community-confirm-requires
-put-community-confirm-requires c κs = let a = c .before .before .before .before .before .before .before .before .before .before .before .before .before .args in
-    (status-small (a .s .now) (a .q) _ (c .before .before .before .before .before .before .before .community-update .ensures .status (c .before .before .before .before .before .before .before .before .before .before .before .before .before .pre .1 .scratch .store) (c .before .before .before .before .before .before .before .before .before .before .before .before .before .pre .1 .scratch .holds)), omega (arith, c .before .before .confirm-size .ensures .0 (c .before .before .before .before .before .before .before .community-update .result .status), c .before .if1 .left, c .before .before .before .before .before .before .before .before .before .before .before .before .before .pre .0 .reply))
+put-community-confirm-requires c κs = let k = c .before .before .before .before .before .before .before .before .before in let a = start k .args in let p = start k .pre in let w = numbered k in let d = c .before .before .before .before .before .before .community-update in (
+  status-small (a .s .now) (a .q) (w .store) (d .ensures .status (w .store) (w .holds)),
+  omega (arith, c .before .before .confirm-size .ensures .0 (d .result .status), c .before .if1 .left, p .0 .reply),
+)
 
-slice-reshare-prefix-finish : tie.Need-slice-reshare-prefix-finish
-slice-reshare-prefix-finish c = omega (arith, (c .before .before .before .before .before .before .before .before .before .before .community-update .ensures .store (c .before .before .before .before .before .before .before .before .before .before .before .before .before .before .before .before .pre .1 .scratch .store) (c .before .before .before .before .before .before .before .before .before .before .before .before .before .before .before .before .pre .1 .scratch .holds)) .inside)
+array-share-prefix-work : tie.Need-array-share-prefix-work
+array-share-prefix-work c = after (c .before .before .before .before .before .before .before .before .before) .holds .inside
 
 slice-aggregate-finish : tie.Need-slice-aggregate-finish
-slice-aggregate-finish c = sym (length-take-le _ _ ((c .before .before .before .before .before .before .before .before .before .before .before .community-update .ensures .store (c .before .before .before .before .before .before .before .before .before .before .before .before .before .before .before .before .before .pre .1 .scratch .store) (c .before .before .before .before .before .before .before .before .before .before .before .before .before .before .before .before .before .pre .1 .scratch .holds)) .inside))
+slice-aggregate-finish c = sym (length-take-le _ _ (after (c .before .before .before .before .before .before .before .before .before .before) .holds .inside))
 
 finish-requires : tie.Need-finish-requires
-finish-requires c κs = omega (arith, held-short (c .before .before .before .before .before .before .before .before .before .before .before .before .community-update .ensures .store (c .before .before .before .before .before .before .before .before .before .before .before .before .before .before .before .before .before .before .pre .1 .scratch .store) (c .before .before .before .before .before .before .before .before .before .before .before .before .before .before .before .before .before .before .pre .1 .scratch .holds)), c .before .before .before .before .before .before .before .before .before .before .before .before .before .before .before .before .before .before .pre .0 .next)
+finish-requires c κs = omega (arith, held-short (after (c .before .before .before .before .before .before .before .before .before .before .before) .holds), start (c .before .before .before .before .before .before .before .before .before .before .before .before .before .before) .pre .0 .next)
+
+same-length : tie.Need-same-length
+same-length c = search needs
 
 same-length-2 : tie.Need-same-length-2
 same-length-2 c = search needs
 
-same-length-3 : tie.Need-same-length-3
-same-length-3 c = search needs
-
-same-length-4 : tie.Need-same-length-4
-same-length-4 c = search needs
-
 returns-2 : tie.Need-returns-2
-returns-2 c σ h = let a = c .before .before .before .before .before .before .before .before .before .before .before .before .before .before .before .before .before .before .before .before .before .args in let e = communityEffect (a .s .now) (a .q) σ in let d = c .before .before .before .before .before .before .before .before .before .before .before .before .before .before .before .community-update in
-    as-status (d .result .status) (e .reply) (encode (e .store)) (a .reply .now) (a .next .now) (d .ensures .status σ h)
-    (written (d .result .status) (e .reply) (encode (e .store)) (a .reply .now) (a .next .now)
-    (community-said (a .s .now) (a .q) σ (c .before .before .before .before .before .before .before .before .before .before .before .whole .ensures) (d .ensures .status σ h))
-    (d .ensures .store σ h .image)
+returns-2 c = let k = c .before .before .before .before .before .before .before .before .before .before .before .before .before .before .before .before .before in let a = start k .args in let p = start k .pre in let d = c .before .before .before .before .before .before .before .before .before .before .before .before .before .before .community-update in
+    community-written (a .s .now) (a .q) (a .i) (a .image .now) (a .reply .now) (a .next .now) (p .2)
+    (k .renumber .ensures)
+    (omega arith)
+    (d .ensures)
+    (c .before .before .before .before .before .before .before .before .before .before .before .whole .ensures)
     (c .before .before .before .before .before .before .before .before .before .before .confirm-size .ensures .0 (d .result .status))
     (c .before .before .before .before .before .before .before .before .before .if1 .left)
     (c .before .before .before .before .before .before .before .put-community-confirm .ensures .0)
     (c .before .before .before .before .before .before .before .put-community-confirm .ensures .1)
     (c .before .before .finish .ensures .0)
-    (c .before .before .finish .ensures .1))
+    (c .before .before .finish .ensures .1)
 
 pub community-spec : {M : Type 1} → statement M
 community-spec =
     tie.close
     (tie.spec
+    slice-aggregate-renumber
+    renumber-requires
+    slice-aggregate-community-update
     community-update-requires
     whole-requires
     confirm-size-requires
     refusal-requires
-    same-length
     returns
     put-community-confirm-requires
-    slice-reshare-prefix-finish
+    array-share-prefix-work
     slice-aggregate-finish
     finish-requires
+    same-length
     same-length-2
-    same-length-3
-    same-length-4
     returns-2)

@@ -13,14 +13,14 @@ enum-known-r c = search needs
 
 refuse-requires : tie.Need-refuse-requires
 refuse-requires c κs = let a = c .before .before .before .before .before .before .before .before .before .before .before .args in
-    refusal-given (a .message .now) (a .image .now) (a .verdict .now) (λ k. omega (arith, c .before .before .before .before .before .before .before .before .before .shared-slice-known2 .given k)) (c .before .before .before .before .before .before .before .before .before .before .before .pre .0) (c .before .before .before .before .before .before .before .before .before .before .before .pre .1) (c .before .before .before .before .before .judge .ensures) (c .before .before .before .r .given .1)
+    refusal-given (a .message .now) (a .image .now) (a .verdict .now) (λ k. omega (arith, c .before .before .before .before .before .before .before .before .before .shared-slice-known2 .given k)) (c .before .before .before .before .before .judge .ensures) (c .before .before .before .before .before .before .before .before .before .before .before .pre .0) (c .before .before .before .before .before .before .before .before .before .before .before .pre .1) (c .before .before .before .r .given .1)
 
 enum-known-q : tie.Need-enum-known-q
 enum-known-q c = search needs
 
 accepted-requires : tie.Need-accepted-requires
 accepted-requires c κs = let a = c .before .before .before .before .before .before .before .before .before .before .before .args in
-    accepted-given (a .message .now) (a .image .now) (a .verdict .now) (c .before .before .before .before .before .before .before .before .before .before .before .pre .0) (c .before .before .before .before .before .before .before .before .before .before .before .pre .1) (c .before .before .before .before .before .judge .ensures) (c .before .before .before .q .given .1)
+    accepted-given (a .message .now) (a .image .now) (a .verdict .now) (λ k. omega (arith, c .before .before .before .before .before .before .before .before .before .shared-slice-known2 .given k)) (c .before .before .before .before .before .judge .ensures) (c .before .before .before .before .before .before .before .before .before .before .before .pre .0) (c .before .before .before .before .before .before .before .before .before .before .before .pre .1) (c .before .before .before .q .given .1)
 
 same-length : tie.Need-same-length
 same-length c = search needs
@@ -30,7 +30,7 @@ same-length-2 c = search needs
 
 returns : tie.Need-returns
 returns c σ d = let a = c .before .before .before .before .before .before .before .before .before .before .before .before .before .before .before .before .args in
-    refused-by (a .message .now) (a .image .now) (a .verdict .now) (a .reply .now) (a .next .now) σ (c .before .before .before .before .before .before .before .before .before .before .judge .ensures σ d) (c .before .before .before .before .before .before .before .before .r .given .1) (c .before .before .before .before .refuse .ensures)
+    refused-by (a .message .now) (a .image .now) (a .verdict .now) (λ k. omega (arith, c .before .before .before .before .before .before .before .before .before .before .before .before .before .before .shared-slice-known2 .given k)) (c .before .before .before .before .before .before .before .before .before .before .judge .ensures) (a .reply .now) (a .next .now) σ d (c .before .before .before .before .before .before .before .before .r .given .1) (c .before .before .before .before .refuse .ensures)
 
 same-length-3 : tie.Need-same-length-3
 same-length-3 c = search needs
@@ -40,7 +40,7 @@ same-length-4 c = search needs
 
 returns-2 : tie.Need-returns-2
 returns-2 c σ d = let a = c .before .before .before .before .before .before .before .before .before .before .before .before .before .before .before .before .args in
-    accepted-by (a .message .now) (a .image .now) (a .verdict .now) (a .reply .now) (a .next .now) σ (c .before .before .before .before .before .before .before .before .before .before .judge .ensures σ d) (c .before .before .before .before .before .before .before .before .q .given .1) (c .before .before .before .before .accepted .ensures σ d)
+    accepted-by (a .message .now) (a .image .now) (a .verdict .now) (λ k. omega (arith, c .before .before .before .before .before .before .before .before .before .before .before .before .before .before .shared-slice-known2 .given k)) (c .before .before .before .before .before .before .before .before .before .before .judge .ensures) (a .reply .now) (a .next .now) σ d (c .before .before .before .before .before .before .before .before .q .given .1) (c .before .before .before .before .accepted .ensures σ d)
 
 pub decide-spec : {M : Type 1} → statement M
 decide-spec =

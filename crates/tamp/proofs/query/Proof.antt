@@ -1,38 +1,65 @@
 -- `tamp::query` meets its contract. Assumes nothing.
 use native.Mathlib.Omega.{arith}
-use Rattle.octets.specs.Status.{success}
-use Rattle.store.specs.Image.{encode}
-use Rattle.protocol.specs.Effect.{queryEffect}
-use Rattle.tamp.proofs.Answers.{too-long, written}
-use Rattle.tamp.proofs.Parts.{whole-fits}
-use Rattle.tamp.proofs.Effects.{query-said}
+use mathlib.Core.Path.{_≡_, sym, ap, _∙_}
+use lib.ListN.{length, take}
+use lib.Seq.{length-take-le}
+use Rattle.octets.specs.Octets.{placed}
+use Rattle.reply.specs.Parts.{responseOf}
+use Rattle.apply.specs.Scratch.{Scratch}
+use Rattle.tamp.proofs.Parts.{whole-fits, image-short}
+use Rattle.tamp.proofs.Signers.{written-scratch}
+use Rattle.tamp.proofs.Effects.{response-again, query-moves, moved-long, moved}
 use borrow.Author.Needs.{needs}
 use Rattle.tamp.proofs.query.Statement.{statement}
 use Rattle.tamp.proofs.query.Tie as tie
+
+abbrev start : tie.After-renumber → tie.Start
+start c = c .before .before .before .before .before .before .before .before .before
+
+-- the next store, and its response, which is that of the image as given
+numbered : (c : tie.After-renumber) → Scratch (c .renumber .last .1 .1 .1 .1 .0) (c .renumber .result)
+numbered c = let p = start c .pre in written-scratch (c .renumber .ensures (p .1 .store) (p .1 .decodes)) (p .0 .next)
+
+again : (c : tie.After-renumber) → let m = c .before .before .before .before .whole .result .now in
+    responseOf m (take (c .renumber .result) (c .renumber .last .1 .1 .1 .1 .0)) ≡ responseOf m (start c .args .image .now)
+again c = let a = start c .args in let p = start c .pre in
+    response-again (a .s .now) (a .q) (a .i) (a .image .now) (a .next .now) (c .before .before .before .before .whole .result .now) (p .1) (c .renumber .ensures) (p .0 .next)
 
 whole-requires : tie.Need-whole-requires
 whole-requires c κs = search needs
 
 response-size-requires : tie.Need-response-size-requires
-response-size-requires c κs = let a = c .before .before .before .before .before .args in let p = c .before .before .before .before .before .pre in (whole-fits (a .s .now) (a .q .msgref) (p .0 .message) (c .whole .ensures), omega (arith, p .1))
+response-size-requires c κs = let a = c .before .before .before .before .before .args in let p = c .before .before .before .before .before .pre in (
+  whole-fits (a .s .now) (a .q .msgref) (p .0 .message) (c .whole .ensures),
+  omega (arith, image-short (a .image .now) (p .1 .store) (λ k. omega (arith, c .before .before .before .shared-slice-known2 .given k)) (p .1 .decodes)),
+)
 
 refusal-requires : tie.Need-refusal-requires
 refusal-requires c κs = search needs
 
 returns : tie.Need-returns
-unfolding queryEffect
-returns c σ g = let a = c .before .before .before .before .before .before .before .before .args in
-    too-long success (queryEffect (a .s .now) (a .q) σ .reply) (encode σ) (a .reply .now) (a .next .now)
-    (query-said (a .s .now) (a .q) σ _ (a .store .now) (c .before .before .before .whole .ensures) g)
+returns c = let a = c .before .before .before .before .before .before .before .before .args in let p = c .before .before .before .before .before .before .before .before .pre in
+    moved-long (a .s .now) (a .q) (a .i) (a .image .now) _ (a .reply .now) (a .next .now)
+    (query-moves (a .s .now) (a .q) (a .i) (a .image .now) (c .before .before .before .whole .ensures) (p .2))
     (c .before .before .response-size .ensures)
     (c .before .if1 .taken)
     (c .refusal .ensures)
 
-put-status-response-requires : tie.Need-put-status-response-requires
-put-status-response-requires c κs = search needs
+renumber-requires : tie.Need-renumber-requires
+renumber-requires c κs = search needs
 
-finish-requires : tie.Need-finish-requires
-finish-requires c κs = search needs
+slice-reshare-prefix-put-status-response : tie.Need-slice-reshare-prefix-put-status-response
+slice-reshare-prefix-put-status-response c = numbered (c .before .before .before) .holds .inside
+
+slice-aggregate-put-status-response : tie.Need-slice-aggregate-put-status-response
+slice-aggregate-put-status-response c = sym (length-take-le _ _ (numbered (c .before .before .before .before) .holds .inside))
+
+put-status-response-requires : tie.Need-put-status-response-requires
+put-status-response-requires c κs = let k = c .before .before .before .before in
+    omega (arith, ap length (again k), k .before .before .before .response-size .ensures, k .before .before .if1 .left, start k .pre .0 .reply)
+
+reply-requires : tie.Need-reply-requires
+reply-requires c κs = search needs
 
 same-length : tie.Need-same-length
 same-length c = search needs
@@ -41,17 +68,15 @@ same-length-2 : tie.Need-same-length-2
 same-length-2 c = search needs
 
 returns-2 : tie.Need-returns-2
-unfolding queryEffect
-returns-2 c σ g = let a = c .before .before .before .before .before .before .before .before .before .before .before .before .before .before .before .args in
-    written success (queryEffect (a .s .now) (a .q) σ .reply) (encode σ) (a .reply .now) (a .next .now)
-    (query-said (a .s .now) (a .q) σ _ (a .store .now) (c .before .before .before .before .before .before .before .before .before .before .whole .ensures) g)
-    (g .1)
-    (c .before .before .before .before .before .before .before .before .before .response-size .ensures)
-    (c .before .before .before .before .before .before .before .before .if1 .left)
-    (c .before .before .before .before .before .before .put-status-response .ensures .0)
-    (c .before .before .before .before .before .before .put-status-response .ensures .1)
-    (c .before .before .finish .ensures .0)
-    (c .before .before .finish .ensures .1)
+returns-2 c = let k = c .before .before .before .before .before .before .before .before in let a = start k .args in let p = start k .pre in
+    moved (a .s .now) (a .q) (a .i) (a .image .now) _ (a .reply .now) (a .next .now)
+    (query-moves (a .s .now) (a .q) (a .i) (a .image .now) (k .before .before .before .before .whole .ensures) (p .2))
+    (k .before .before .before .response-size .ensures)
+    (k .before .before .if1 .left)
+    (c .before .before .before .put-status-response .ensures .0 ∙ ap length (again k))
+    (c .before .before .before .put-status-response .ensures .1 ∙ ap (placed (a .reply .now) 0) (again k))
+    (k .renumber .ensures)
+    (c .reply2 .ensures)
 
 pub query-spec : {M : Type 1} → statement M
 query-spec =
@@ -61,8 +86,11 @@ query-spec =
     response-size-requires
     refusal-requires
     returns
+    renumber-requires
+    slice-reshare-prefix-put-status-response
+    slice-aggregate-put-status-response
     put-status-response-requires
-    finish-requires
+    reply-requires
     same-length
     same-length-2
     returns-2)

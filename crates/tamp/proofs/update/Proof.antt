@@ -1,11 +1,34 @@
 -- `tamp::update` meets its contract. Assumes nothing.
-use mathlib.Core.Path.{sym}
 use native.Mathlib.Omega.{arith}
+use mathlib.Core.Path.{sym}
 use lib.Seq.{length-take-le}
-use Rattle.tamp.proofs.Effects.{held-short, counted, codes-few, update-refused, update-confirmed}
+use Rattle.octets.specs.Octets.{Octets}
+use Rattle.apply.specs.Scratch.{Scratch}
+use Rattle.tamp.proofs.Signers.{written-scratch, written-holds}
+use Rattle.tamp.proofs.Effects.{held-short, counted, codes-few, update-refused, update-confirmed, by-update}
 use borrow.Author.Needs.{needs}
 use Rattle.tamp.proofs.update.Statement.{statement}
 use Rattle.tamp.proofs.update.Tie as tie
+
+abbrev start : tie.After-renumber → tie.Start
+start c = c .before .before .before .before .before .before
+
+octets : (c : tie.After-renumber) → Octets (start c .args .image .now)
+octets c i = omega (arith, c .before .before .before .before .shared-slice-known2 .given i)
+
+-- the scratch image, with the signer's number, and as the entries left it
+numbered : (c : tie.After-renumber) → Scratch (c .renumber .last .1 .1 .1 .1 .0) (c .renumber .result)
+numbered c = let p = start c .pre in written-scratch (c .renumber .ensures (p .1 .store) (p .1 .decodes)) (omega arith)
+
+after : (c : tie.After-update) → Scratch (c .update .last .1 .1 .1 .1 .0) (c .update .result)
+after c = let w = numbered (c .before .before .before .before .before .before .before) in let d = c .update .ensures in
+    record { room = omega (arith, w .room, d .room); store = _; holds = d .store (w .store) (w .holds) }
+
+slice-aggregate-renumber : tie.Need-slice-aggregate-renumber
+slice-aggregate-renumber c = search needs
+
+renumber-requires : tie.Need-renumber-requires
+renumber-requires c κs = search needs
 
 updates-in-requires : tie.Need-updates-in-requires
 updates-in-requires c κs = search needs
@@ -13,14 +36,14 @@ updates-in-requires c κs = search needs
 count-requires : tie.Need-count-requires
 count-requires c κs = search needs
 
-slice-reshare-prefix-error : tie.Need-slice-reshare-prefix-error
-slice-reshare-prefix-error c = search needs
+array-share-prefix-work : tie.Need-array-share-prefix-work
+array-share-prefix-work c = numbered (c .before .before .before .before) .holds .inside
 
 slice-aggregate-error : tie.Need-slice-aggregate-error
-slice-aggregate-error c = sym (length-take-le _ _ (c .before .before .before .before .before .before .before .before .before .pre .1 .scratch .holds .inside))
+slice-aggregate-error c = sym (length-take-le _ _ (numbered (c .before .before .before .before .before) .holds .inside))
 
 error-requires : tie.Need-error-requires
-error-requires c κs = let p = c .before .before .before .before .before .before .before .before .before .before .before .pre in (p .0, omega arith, held-short (p .1 .scratch .holds))
+error-requires c κs = (start (c .before .before .before .before .before .before .before) .pre .0, omega arith, held-short (numbered (c .before .before .before .before .before .before .before) .holds))
 
 same-length : tie.Need-same-length
 same-length c = search needs
@@ -28,22 +51,26 @@ same-length c = search needs
 same-length-2 : tie.Need-same-length-2
 same-length-2 c = search needs
 
-same-length-3 : tie.Need-same-length-3
-same-length-3 c = search needs
-
 returns : tie.Need-returns
-returns c σ h = let a = c .before .before .before .before .before .before .before .before .before .before .before .before .before .before .before .before .args in
-    update-refused (a .s .now) (a .q) (c .before .before .before .before .before .before .before .before .before .before .updates-in .ensures) (c .before .before .before .before .before .before .before .before .before .count .ensures) _ σ (a .reply .now) (a .next .now) (c .before .before .before .before .before .before .before .before .if1 .taken) h (c .before .before .before .before .error .ensures)
+returns c σ d = let k = c .before .before .before .before .before .before .before .before .before .before .before .before in let a = start k .args in let p = start k .pre in let h = written-holds (k .renumber .ensures σ d) (omega arith) in
+    by-update (a .s .now) (a .q) (a .i) σ (a .reply .now) (a .next .now) (a .image .now) (octets k) (p .1) d (p .2)
+    (update-refused (a .s .now) (a .q) (c .before .before .before .before .before .before .before .before .before .before .updates-in .ensures) (c .before .before .before .before .before .before .before .before .before .count .ensures) _ _ (a .reply .now) (a .next .now)
+    (c .before .before .before .before .before .before .before .before .if1 .taken)
+    h
+    (c .before .before .before .before .error .ensures))
 
 slice-aggregate-update : tie.Need-slice-aggregate-update
 slice-aggregate-update c = search needs
 
+slice-aggregate-update-2 : tie.Need-slice-aggregate-update-2
+slice-aggregate-update-2 c = search needs
+
 update-requires : tie.Need-update-requires
-update-requires c κs = let a = c .before .before .before .before .before .before .before .before .before .before .args in let p = c .before .before .before .before .before .before .before .before .before .before .pre .1 in
+update-requires c κs = let k = c .before .before .before .before .before .before in let a = start k .args in let p = start k .pre in
     record {
-      asked = p .asks;
-      update = p .is;
-      scratch = p .scratch;
+      asked = p .1 .asks;
+      update = p .2;
+      scratch = numbered k;
       few = omega (arith, counted (a .s .now) (a .q) (c .before .before .before .before .updates-in .ensures) (c .before .before .before .count .ensures), c .before .before .if1 .left);
       space = omega arith;
     }
@@ -52,52 +79,56 @@ array-share-prefix-codes : tie.Need-array-share-prefix-codes
 array-share-prefix-codes c = search needs
 
 slice-aggregate-confirm : tie.Need-slice-aggregate-confirm
-slice-aggregate-confirm c = sym (length-take-le _ _ (omega (arith, c .before .before .before .before .before .before .before .if1 .left)))
+slice-aggregate-confirm c = sym (length-take-le _ _ (omega (arith, c .before .before .before .before .before .before .if1 .left)))
 
-slice-reshare-prefix-confirm : tie.Need-slice-reshare-prefix-confirm
-slice-reshare-prefix-confirm c = omega (arith, (c .before .before .before .before .update .ensures .store (c .before .before .before .before .before .before .before .before .before .before .before .before .before .before .before .pre .1 .scratch .store) (c .before .before .before .before .before .before .before .before .before .before .before .before .before .before .before .pre .1 .scratch .holds)) .inside)
+array-share-prefix-work-2 : tie.Need-array-share-prefix-work-2
+array-share-prefix-work-2 c = after (c .before .before .before) .holds .inside
 
 slice-aggregate-confirm-2 : tie.Need-slice-aggregate-confirm-2
-slice-aggregate-confirm-2 c = sym (length-take-le _ _ ((c .before .before .before .before .before .update .ensures .store (c .before .before .before .before .before .before .before .before .before .before .before .before .before .before .before .before .pre .1 .scratch .store) (c .before .before .before .before .before .before .before .before .before .before .before .before .before .before .before .before .pre .1 .scratch .holds)) .inside))
+slice-aggregate-confirm-2 c = sym (length-take-le _ _ (after (c .before .before .before .before) .holds .inside))
 
 confirm-requires : tie.Need-confirm-requires
-confirm-requires c κs = (c .before .before .before .before .before .before .before .before .before .before .before .before .before .before .before .before .before .before .pre .0, codes-few (c .before .before .before .before .before .before .before .update .ensures .statuses (c .before .before .before .before .before .before .before .before .before .before .before .before .before .before .before .before .before .before .pre .1 .scratch .store) (c .before .before .before .before .before .before .before .before .before .before .before .before .before .before .before .before .before .before .pre .1 .scratch .holds)) (c .before .before .before .before .before .before .before .before .before .before .if1 .left), held-short (c .before .before .before .before .before .before .before .update .ensures .store (c .before .before .before .before .before .before .before .before .before .before .before .before .before .before .before .before .before .before .pre .1 .scratch .store) (c .before .before .before .before .before .before .before .before .before .before .before .before .before .before .before .before .before .before .pre .1 .scratch .holds)))
+confirm-requires c κs = let k = c .before .before .before .before .before .before .before .before .before .before .before .before .before in let w = numbered k in let d = c .before .before .before .before .before .before in
+    (start k .pre .0, codes-few (d .update .ensures .statuses (w .store) (w .holds)) (c .before .before .before .before .before .before .before .before .before .if1 .left), held-short (after d .holds))
+
+same-length-3 : tie.Need-same-length-3
+same-length-3 c = search needs
 
 same-length-4 : tie.Need-same-length-4
 same-length-4 c = search needs
 
-same-length-5 : tie.Need-same-length-5
-same-length-5 c = search needs
-
-same-length-6 : tie.Need-same-length-6
-same-length-6 c = search needs
-
 returns-2 : tie.Need-returns-2
-returns-2 c σ h = let a = c .before .before .before .before .before .before .before .before .before .before .before .before .before .before .before .before .before .before .before .before .before .before .before .args in
-    update-confirmed (a .s .now) (a .q) (c .before .before .before .before .before .before .before .before .before .before .before .before .before .before .before .before .before .updates-in .ensures) (c .before .before .before .before .before .before .before .before .before .before .before .before .before .before .before .before .count .ensures) _ σ (a .reply .now) (a .next .now) (c .before .before .before .before .before .before .before .before .before .before .before .before .before .before .before .if1 .left) _
-    (c .before .before .before .before .before .before .before .before .before .before .before .before .update .ensures .store σ h) (c .before .before .before .before .before .before .before .before .before .before .before .before .update .ensures .statuses σ h) (c .before .before .before .before .confirm .ensures)
+returns-2 c σ d = let k = c .before .before .before .before .before .before .before .before .before .before .before .before .before .before .before .before .before .before in let a = start k .args in let p = start k .pre in let h = written-holds (k .renumber .ensures σ d) (omega arith) in
+    by-update (a .s .now) (a .q) (a .i) σ (a .reply .now) (a .next .now) (a .image .now) (octets k) (p .1) d (p .2)
+    (update-confirmed (a .s .now) (a .q) (c .before .before .before .before .before .before .before .before .before .before .before .before .before .before .before .before .updates-in .ensures) (c .before .before .before .before .before .before .before .before .before .before .before .before .before .before .before .count .ensures) _ _ (a .reply .now) (a .next .now)
+    (c .before .before .before .before .before .before .before .before .before .before .before .before .before .before .if1 .left)
+    _
+    (c .before .before .before .before .before .before .before .before .before .before .before .update .ensures .store _ h)
+    (c .before .before .before .before .before .before .before .before .before .before .before .update .ensures .statuses _ h)
+    (c .before .before .before .before .confirm .ensures))
 
 pub update-spec : {M : Type 1} → statement M
 update-spec =
     tie.close
     (tie.spec
+    slice-aggregate-renumber
+    renumber-requires
     updates-in-requires
     count-requires
-    slice-reshare-prefix-error
+    array-share-prefix-work
     slice-aggregate-error
     error-requires
     same-length
     same-length-2
-    same-length-3
     returns
     slice-aggregate-update
+    slice-aggregate-update-2
     update-requires
     array-share-prefix-codes
     slice-aggregate-confirm
-    slice-reshare-prefix-confirm
+    array-share-prefix-work-2
     slice-aggregate-confirm-2
     confirm-requires
+    same-length-3
     same-length-4
-    same-length-5
-    same-length-6
     returns-2)
