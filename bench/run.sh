@@ -7,6 +7,7 @@ dir=$(mktemp -d)
 trap 'rm -rf "$dir"' EXIT
 gcc -O2 bench/bench.c target/staticlib/libtamp.a -lcrypto -lpthread -o "$dir/bench"
 python3 bench/cases.py "$dir/cases"
+echo "lent buffers cleared once, before the runs"
 for case in "$dir"/cases/*; do
     "$dir/bench" "$(basename "$case")" "$case"
 done

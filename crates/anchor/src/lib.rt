@@ -92,21 +92,6 @@ struct Faults {
     octets: bool,
 }
 
-// 01's limits.
-pub const MAX_ANCHOR_OCTETS: usize = 1024;
-
-pub const MAX_KEY_IDENTIFIER: usize = 32;
-
-pub const MAX_DEPTH: usize = 16;
-
-pub const MAX_ENTRIES: usize = 16;
-
-pub const MAX_ATTRIBUTES: usize = 4;
-
-pub const MAX_VALUES: usize = 4;
-
-pub const MAX_VALUE_OCTETS: usize = 64;
-
 // RFC 6010, 2, and 01, Rights: the contents of their OIDs.
 const ID_PE_CMS_CONTENT_CONSTRAINTS: [u8; 8] = [0x2B, 0x06, 0x01, 0x05, 0x05, 0x07, 0x01, 0x12];
 
@@ -241,7 +226,7 @@ fn has_long(s: &[u8], outer: Element) -> bool
     let mut i = outer.start;
     while i < stop {
         let e = der::element_at(s, i, stop);
-        if MAX_VALUE_OCTETS < der::whole(s, e).len() {
+        if octets::MAX_VALUE_OCTETS < der::whole(s, e).len() {
             return true;
         }
         i = next(e, stop);
@@ -380,7 +365,7 @@ fn attribute_faults(v: &[u8], a: Element) -> Faults
         unlike: false,
         entries: false,
         attributes: false,
-        values: more_than(v, values, MAX_VALUES),
+        values: more_than(v, values, octets::MAX_VALUES),
         octets: has_long(v, values),
     }
 }
@@ -423,7 +408,7 @@ fn entry_faults(v: &[u8], e: Element) -> Faults
         repeated: !is_distinct(v, list, Compared::Types),
         unlike: is_unlike(v, e),
         entries: false,
-        attributes: more_than(v, list, MAX_ATTRIBUTES),
+        attributes: more_than(v, list, octets::MAX_ATTRIBUTES),
         values: false,
         octets: false,
     };
@@ -453,7 +438,7 @@ fn rights_faults(v: &[u8]) -> Faults
     let own = Faults {
         repeated: !is_distinct(v, list, Compared::Types),
         unlike: false,
-        entries: more_than(v, list, MAX_ENTRIES),
+        entries: more_than(v, list, octets::MAX_ENTRIES),
         attributes: false,
         values: false,
         octets: false,
@@ -468,7 +453,7 @@ fn identifier_outside(k: &[u8]) -> bool
     if k.len() == 0 {
         return true;
     }
-    MAX_KEY_IDENTIFIER < k.len()
+    octets::MAX_KEY_IDENTIFIER < k.len()
 }
 
 // Octets by themselves are DER, depth counted from their element, and of a syntax.
@@ -476,7 +461,7 @@ pub fn conforms(form: syntax::Form, t: &[u8]) -> bool
     ensures { λ r. ⌜ r ≡ conformsOf (formSyntax form) (now (t .entry)) ⌝ }
 {
     let n = t.len();
-    let Fit::Fits = der::spans(t, 0, n, 0, MAX_DEPTH) else {
+    let Fit::Fits = der::spans(t, 0, n, 0, octets::MAX_DEPTH) else {
         return false;
     };
     let Fit::Fits = syntax::fits(form, t, 0, n, 0) else {
@@ -535,7 +520,7 @@ fn judge_rights(t: &[u8], k: &[u8], v: &[u8]) -> Judged
     if faults.unlike {
         return Judged::AnyContentTypeEntry;
     }
-    if MAX_ANCHOR_OCTETS < t.len() {
+    if octets::MAX_ANCHOR_OCTETS < t.len() {
         return Judged::AnchorOctets;
     }
     if identifier_outside(k) {

@@ -137,7 +137,7 @@ fn add(image: &[u8], i: usize, work: &mut [u8], len: usize, old: usize, t: &[u8]
         }
         return Applied::Failed(Status::IMPROPER_TA_ADDITION);
     }
-    if 32 <= store::anchor_count(&work[..len]) {
+    if octets::MAX_ANCHORS <= store::anchor_count(&work[..len]) {
         return Applied::Failed(Status::INSUFFICIENT_MEMORY);
     }
     let n = append(work, len, t);
@@ -436,7 +436,7 @@ fn has_long(s: &[u8], list: Element) -> bool
     let mut i = list.start;
     while i < stop {
         let e = der::element_at(s, i, stop);
-        if 32 < der::contents(s, e).len() {
+        if octets::MAX_NAME < der::contents(s, e).len() {
             return true;
         }
         i = next(e, stop);

@@ -27,9 +27,6 @@ use syntax::Form;
 use syntax::Recognised;
 use syntax::TampType;
 
-// 01, DER: "to depth 16".
-pub const MAX_DEPTH: usize = 16;
-
 // RFC 5652, 11.1 and 11.2: 1.2.840.113549.1.9.3 and 1.2.840.113549.1.9.4.
 const ID_CONTENT_TYPE: [u8; 9] = [42, 134, 72, 134, 247, 13, 1, 9, 3];
 
@@ -240,7 +237,7 @@ pub fn open(s: &[u8]) -> Envelope
 {
     let none = no_element();
     let n = s.len();
-    if let Fit::Breaks(o) = der::spans(s, 0, n, 0, MAX_DEPTH) {
+    if let Fit::Breaks(o) = der::spans(s, 0, n, 0, octets::MAX_DEPTH) {
         return refuse(Status::DECODE_FAILURE, o, none);
     }
     if is_bare(s) {

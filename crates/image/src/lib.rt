@@ -28,17 +28,6 @@ pub enum Stop {
     Broken,
 }
 
-// 01's limits.
-const MAX_NAME: usize = 32;
-
-const MAX_ANCHORS: usize = 32;
-
-const MAX_ANCHOR_OCTETS: usize = 1024;
-
-const MAX_NUMBER: u64 = 9223372036854775807;
-
-const MAX_COMMUNITIES: usize = 16;
-
 // A length of one octet, 1 to 32, and so many octets.
 fn name_stop(s: &[u8], p: usize) -> Stop
     ensures { λ r. ⌜ nameRead (now (s .entry)) p r ≡ readSized 1 maxName (drop p (now (s .entry))) ⌝ }
@@ -50,7 +39,7 @@ fn name_stop(s: &[u8], p: usize) -> Stop
     if n == 0 {
         return Stop::Broken;
     }
-    if MAX_NAME < n {
+    if octets::MAX_NAME < n {
         return Stop::Broken;
     }
     if s.len() - p - 1 < n {
@@ -85,7 +74,7 @@ fn is_number(present: u8, n: u64) -> bool
     if 1 < present {
         return false;
     }
-    if MAX_NUMBER < n {
+    if octets::MAX_NUMBER < n {
         return false;
     }
     if present == 1 {
@@ -108,7 +97,7 @@ fn anchor_stop(s: &[u8], p: usize) -> Stop
     if n == 0 {
         return Stop::Broken;
     }
-    if MAX_ANCHOR_OCTETS < n {
+    if octets::MAX_ANCHOR_OCTETS < n {
         return Stop::Broken;
     }
     if s.len() - p - 11 < n {
@@ -169,7 +158,7 @@ fn anchor_section(image: &[u8], p: usize) -> Stop
     if n == 0 {
         return Stop::Broken;
     }
-    if MAX_ANCHORS < n {
+    if octets::MAX_ANCHORS < n {
         return Stop::Broken;
     }
     let Stop::Behind(e) = anchors_stop(image, p + 1, n) else {
@@ -235,7 +224,7 @@ fn community_section(image: &[u8], p: usize) -> Stop
         return Stop::Broken;
     }
     let n = store::octet_at(image, p);
-    if MAX_COMMUNITIES < n {
+    if octets::MAX_COMMUNITIES < n {
         return Stop::Broken;
     }
     let Stop::Behind(e) = communities_stop(image, p + 1, n) else {

@@ -59,7 +59,7 @@ pub enum Entry {
 fn body_fit(kind: TampType, s: &[u8], e: Element) -> Fit
     ensures { λ r. ⌜ r ≡ row-36 kind (now (s .entry)) e ⌝ }
 {
-    if let Fit::Breaks(o) = der::spans(s, e.start, e.stop, e.at, envelope::MAX_DEPTH) {
+    if let Fit::Breaks(o) = der::spans(s, e.start, e.stop, e.at, octets::MAX_DEPTH) {
         return Fit::Breaks(o);
     }
     syntax::fits(Form::Message(kind), s, e.start, e.stop, e.at)

@@ -2,4 +2,5 @@ pub mod Lists
 pub mod Compare
 pub mod Parts
 pub mod Placed
+pub mod Turns
 pub mod Number

@@ -1,6 +1,5 @@
 pub mod Again
 pub mod Held
-pub mod Turns
 pub mod Codes
 pub mod Calls
 pub mod Sizes

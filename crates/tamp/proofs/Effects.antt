@@ -1,4 +1,4 @@
--- The effects of an accepted message, as the code makes them on a scratch image.
+-- The effects of an accepted message, as the code makes them.
 use Prim.Native.Nat.{ℕ, zero, suc, _+_, _≤_, _<_}
 use native.Mathlib.Omega.{arith}
 use mathlib.Core.Bool.{true, false}
@@ -40,7 +40,7 @@ use Rattle.apply.specs.Community.{CommunityDone}
 use Rattle.apply.proofs.Signer.{signer-rights}
 use Rattle.tamp.specs.declared.Answer.{Answer}
 use Rattle.tamp.specs.Left.{Left, leaves, refusal, answer, AnswersTo}
-use Rattle.tamp.specs.Given.{Signed, Renumbers}
+use Rattle.tamp.specs.Given.{Signed, numberedBy, Renumbers}
 use Rattle.tamp.proofs.Answers.{too-long, written, as-status}
 use Rattle.tamp.proofs.Parts.{response-of}
 use Rattle.tamp.proofs.Signers.{signed-inside, written-holds}
@@ -50,12 +50,12 @@ abbrev pub Leaving : Effect → List ℕ → List ℕ → Left
 Leaving e reply next = leaves (guarded (answered (e .status) (e .reply) (encode (e .store)))) reply next
 
 effect-is : (s : List ℕ) (q : Request) (i : ℕ) (σ : Store) {kind : TampType} → q .kind ≡ kind
-    → effect s q i σ ≡ effectOf kind s q (rightsAt σ i) (withNumber i (seqNumIn s (q .msgref)) σ)
+    → effect s q i σ ≡ effectOf kind s q (rightsAt σ i) (numberedBy s q i σ)
 unfolding effect
-effect-is s q i σ k = ap (λ (kind : TampType). effectOf kind s q (rightsAt σ i) (withNumber i (seqNumIn s (q .msgref)) σ)) k
+effect-is s q i σ k = ap (λ (kind : TampType). effectOf kind s q (rightsAt σ i) (numberedBy s q i σ)) k
 
 by-effect : (s : List ℕ) (q : Request) (i : ℕ) (σ : Store) (reply next : List ℕ) {z : Left} {kind : TampType} → q .kind ≡ kind
-    → z ≡ Leaving (effectOf kind s q (rightsAt σ i) (withNumber i (seqNumIn s (q .msgref)) σ)) reply next → z ≡ Leaving (effect s q i σ) reply next
+    → z ≡ Leaving (effectOf kind s q (rightsAt σ i) (numberedBy s q i σ)) reply next → z ≡ Leaving (effect s q i σ) reply next
 by-effect s q i σ reply next k a = a ∙ ap (λ (e : Effect). Leaving e reply next) (sym (effect-is s q i σ k))
 
 pub held-short : {σ : Store} {d : List ℕ} {len : ℕ} → Holds σ d len → length (take len d) ≤ imageRoom
@@ -65,7 +65,7 @@ held-short {σ} h = rw (h .image) (encode-length σ (h .good))
 
 abbrev Moves : List ℕ → Request → ℕ → List ℕ → List ℕ → Type 0
 Moves s q i image said =
-    (σ : Store) → decode image ≡ some σ → effect s q i σ ≡ record { status = success; reply = said; store = withNumber i (seqNumIn s (q .msgref)) σ }
+    (σ : Store) → decode image ≡ some σ → effect s q i σ ≡ record { status = success; reply = said; store = numberedBy s q i σ }
 
 numberSet-identifiers : (i n : ℕ) (l : List Anchor) → map identifierOf (numberSet i n l) ≡ map identifierOf l
 unfolding numberSet
@@ -84,36 +84,34 @@ response-stays msgRef (suc i) n σ =
 pub response-again : (s : List ℕ) (q : Request) (i : ℕ) (image next m : List ℕ) → Signed s q i image → {l : ℕ} {next′ : List ℕ}
     → Renumbers s q i image next l next′ → imageRoom ≤ length next → responseOf m (take l next′) ≡ responseOf m image
 response-again s q i image next m g {l} {next′} w room =
-    let n = seqNumIn s (q .msgref) in
-    let h = written-holds (w (g .store) (g .decodes)) room in
-    let d : decode (take l next′) ≡ some (withNumber i n (g .store)) = ap decode (h .image) ∙ decode-encode (withNumber i n (g .store)) (h .good) in
-    response-of m (take l next′) (withNumber i n (g .store)) d ∙ sym (response-of m image (g .store) (g .decodes) ∙ response-stays m i n (g .store))
+    let σ = g .store in
+    let h = written-holds (w σ (g .decodes)) room in
+    let d : decode (take l next′) ≡ some (numberedBy s q i σ) = ap decode (h .image) ∙ decode-encode (numberedBy s q i σ) (h .good) in
+    response-of m (take l next′) (numberedBy s q i σ) d ∙ sym (response-of m image σ (g .decodes) ∙ response-stays m i (seqNumIn s (q .msgref)) σ)
 
 module _ (s : List ℕ) (q : Request) (i : ℕ) (image : List ℕ) {m : List ℕ} (e : m ≡ whole s (q .msgref)) where
   pub query-moves : q .kind ≡ StatusQuery → Moves s q i image (responseOf m image)
   unfolding effectOf queryEffect
   query-moves k σ d =
-      let n = seqNumIn s (q .msgref) in
-      effect-is s q i σ k
-      ∙ ap (λ (said : List ℕ). record { status = success; reply = said; store = withNumber i n σ })
-      (sym (ap (λ (m : List ℕ). responseOf m image) e ∙ response-of (whole s (q .msgref)) image σ d ∙ response-stays (whole s (q .msgref)) i n σ))
+      let said = ap (λ (m : List ℕ). responseOf m image) e ∙ response-of (whole s (q .msgref)) image σ d ∙ response-stays (whole s (q .msgref)) i (seqNumIn s (q .msgref)) σ in
+      effect-is s q i σ k ∙ ap (λ (said : List ℕ). record { status = success; reply = said; store = numberedBy s q i σ }) (sym said)
 
   pub adjust-moves : q .kind ≡ SeqNumAdjust → Moves s q i image (adjustConfirm m)
   unfolding effectOf adjustEffect
   adjust-moves k σ d =
       effect-is s q i σ k
-      ∙ ap (λ (m : List ℕ). record { status = success; reply = adjustConfirm m; store = withNumber i (seqNumIn s (q .msgref)) σ }) (sym e)
+      ∙ ap (λ (m : List ℕ). record { status = success; reply = adjustConfirm m; store = numberedBy s q i σ }) (sym e)
 
 module _ (s : List ℕ) (q : Request) (i : ℕ) (image said reply next : List ℕ) (moves : Moves s q i image said) {n : ℕ} (size : n ≡ length said) where
   pub moved-long : replyRoom < n → {r : Answer} → r ≡ refusal longReply → AnswersTo s q i image r reply next reply next
   moved-long h a σ d =
-      too-long success said (encode (withNumber i (seqNumIn s (q .msgref)) σ)) reply next refl size h a
+      too-long success said (encode (numberedBy s q i σ)) reply next refl size h a
       ∙ ap (λ (e : Effect). Leaving e reply next) (sym (moves σ d))
 
   pub moved : n ≤ replyRoom → {k l : ℕ} {r : Answer} {reply′ next′ : List ℕ} → k ≡ length said → reply′ ≡ placed reply 0 said
       → Renumbers s q i image next l next′ → r ≡ answer success k l → AnswersTo s q i image r reply next reply′ next′
   moved h {k} f p w a σ d =
-      written success said (encode (withNumber i (seqNumIn s (q .msgref)) σ)) reply next refl refl size h f p
+      written success said (encode (numberedBy s q i σ)) reply next refl refl size h f p
       (a ∙ ap (answer success k) (w σ d .size))
       (w σ d .octets)
       ∙ ap (λ (e : Effect). Leaving e reply next) (sym (moves σ d))
@@ -137,7 +135,7 @@ module _ (s : List ℕ) (q : Request) (i : ℕ) (image reply next : List ℕ) (k
     {done : Communities} {work′ : List ℕ} (u : CommunityDone s q work len done work′)
     {m : List ℕ} (e : m ≡ whole s (q .msgref)) {n : ℕ} (size : n ≡ length (communityConfirm m (done .status))) where
   abbrev after : Store → Effect
-  after σ = communityEffect s q (withNumber i (seqNumIn s (q .msgref)) σ)
+  after σ = communityEffect s q (numberedBy s q i σ)
 
   status-is : (σ : Store) → decode image ≡ some σ → done .status ≡ after σ .status
   status-is σ d = u .status _ (written-holds (w σ d) room)
@@ -246,12 +244,12 @@ rights-at image σ o d i h =
 
 module _ (s : List ℕ) (q : Request) (i : ℕ) (σ : Store) (reply next : List ℕ) {z : Left} where
   pub by-update : (image : List ℕ) → Octets image → Signed s q i image → decode image ≡ some σ → q .kind ≡ Update
-      → z ≡ Leaving (updateEffect s q (signerRights image i) (withNumber i (seqNumIn s (q .msgref)) σ)) reply next → z ≡ Leaving (effect s q i σ) reply next
+      → z ≡ Leaving (updateEffect s q (signerRights image i) (numberedBy s q i σ)) reply next → z ≡ Leaving (effect s q i σ) reply next
   unfolding effectOf
   by-update image o g d k a =
       by-effect s q i σ reply next k
       (a
-      ∙ ap (λ (rights : Rights). Leaving (updateEffect s q rights (withNumber i (seqNumIn s (q .msgref)) σ)) reply next)
+      ∙ ap (λ (rights : Rights). Leaving (updateEffect s q rights (numberedBy s q i σ)) reply next)
       (rights-at image σ o d i (signed-inside s q i image g σ d)))
 
 -- a refused message's reply

@@ -33,7 +33,6 @@ use Rattle.message.proofs.Numbers.{readNumber, asked-seqNum}
 use Rattle.protocol.specs.declared.Judgement.{Judgement}
 use Rattle.protocol.specs.declared.Judgement.the-variants.{Refuses, Accepts}
 use Rattle.protocol.specs.Acceptance.{weighed, bySigner, judgementOf, judgement}
-use Rattle.protocol.specs.Effect.{withNumber}
 use Rattle.protocol.proofs.Lists.{given-next}
 use Rattle.protocol.proofs.Answer.{accepted-asks}
 use Rattle.protocol.proofs.WellFormed.{good-store, store-good, good-withNumber}
@@ -41,7 +40,7 @@ use Rattle.accept.proofs.Anchors.{signer-anchor}
 use Rattle.apply.proofs.Edits.{set-number-step}
 use Rattle.apply.proofs.Image.{record-place}
 use Rattle.apply.specs.Scratch.{Holds, Scratch}
-use Rattle.tamp.specs.Given.{Signed, Writes, Renumbers}
+use Rattle.tamp.specs.Given.{Signed, numberedBy, Writes, Renumbers}
 use Rattle.tamp.proofs.Parts.{image-short}
 
 -- the signer stands at a position of the store
@@ -82,19 +81,19 @@ module _ (s : List ℕ) (q : Request) (i : ℕ) (image : List ℕ) (os : Octets 
         let e = encode-decode image σ oi d in
         ap (λ (m : List ℕ). recordPlace m (firstRecord m) i) (sym e) ∙ record-place σ (decode-wellFormed image σ d) i (omega arith)
 
-    renumbered : (work : List ℕ) → imageRoom ≤ length work → length image ≤ imageRoom
-        → take (length image) (placed (placed work 0 image) (placeOf σ i) (encodeNumber (some (seqNumIn s (q .msgref))))) ≡ encode (withNumber i (seqNumIn s (q .msgref)) σ)
-    renumbered work room short =
+    number-in : (next : List ℕ) → imageRoom ≤ length next → length image ≤ imageRoom
+        → take (length image) (placed (placed next 0 image) (placeOf σ i) (encodeNumber (some (seqNumIn s (q .msgref))))) ≡ encode (numberedBy s q i σ)
+    number-in next room short =
         let z : 0 + length image ≡ length image = omega arith in
-        let held : take (length image) (placed work 0 image) ≡ encode σ =
-        ap (λ (k : ℕ). take k (placed work 0 image)) (sym z) ∙ take-behind-placed work 0 image (omega arith) ∙ sym (encode-decode image σ oi d)
+        let held : take (length image) (placed next 0 image) ≡ encode σ =
+        ap (λ (k : ℕ). take k (placed next 0 image)) (sym z) ∙ take-behind-placed next 0 image (omega arith) ∙ sym (encode-decode image σ oi d)
         in
-        let size = length-placed work 0 image (omega arith) in
-        set-number-step σ (placed work 0 image) (length image) held (omega arith) i (seqNumIn s (q .msgref)) inside
+        let size = length-placed next 0 image (omega arith) in
+        set-number-step σ (placed next 0 image) (length image) held (omega arith) i (seqNumIn s (q .msgref)) inside
 
-    good-after : wellFormed (withNumber i (seqNumIn s (q .msgref)) σ) ≡ true
+    good-after : wellFormed (numberedBy s q i σ) ≡ true
     good-after =
-        store-good (withNumber i (seqNumIn s (q .msgref)) σ)
+        store-good (numberedBy s q i σ)
         (good-withNumber i (seqNumIn s (q .msgref)) σ (asked-number s q asks os) (good-store σ (decode-wellFormed image σ d)))
 
     place-room : placeOf σ i + 9 ≤ length image
@@ -141,25 +140,25 @@ module _ (s : List ℕ) (q : Request) (i : ℕ) (image next : List ℕ) (os : Oc
         → Renumbers s q i image next (length image) next″
     renumber-done {n} {next″} f x σ d =
         let inside = signed-inside s q i image g σ d in
-        let m = seqNumIn s (q .msgref) in
+        let number = encodeNumber (some (seqNumIn s (q .msgref))) in
         let b = placed next 0 image in
-        let all : next″ ≡ placed b (placeOf σ i) (encodeNumber (some m)) =
+        let all : next″ ≡ placed b (placeOf σ i) number =
         x
         ∙ ap (λ (b : List ℕ). placed b p (encodeNumber (some n))) w
         ∙ ap₂ (λ (a m : ℕ). placed b a (encodeNumber (some m))) (e ∙ place-is s q i image os oi (g .asks) σ d inside) (f ∙ asked-seqNum s q (g .asks))
         in
-        let held = renumbered s q i image os oi (g .asks) σ d inside next room (image-short image σ oi d) in
+        let held = number-in s q i image os oi (g .asks) σ d inside next room (image-short image σ oi d) in
         let k = place-room s q i image os oi (g .asks) σ d inside in
-        let l = length-encodeNumber (some m) in
+        let l = length-encodeNumber (some (seqNumIn s (q .msgref))) in
         let c = length-placed next 0 image copy-fits in
-        let size : length (encode (withNumber i m σ)) ≡ length image =
-        image-length (withNumber i m σ) (placed b (placeOf σ i) (encodeNumber (some m))) (length image) held
-        (omega (arith, length-placed b (placeOf σ i) (encodeNumber (some m)) (omega (arith, copy-fits)), copy-fits))
+        let z = length-placed b (placeOf σ i) number (omega (arith, copy-fits)) in
+        let size : length (encode (numberedBy s q i σ)) ≡ length image =
+        image-length (numberedBy s q i σ) (placed b (placeOf σ i) number) (length image) held (omega (arith, copy-fits))
         in
         record {
           good = good-after s q i image os oi (g .asks) σ d inside;
           size = sym size;
-          octets = all ∙ placed-inside next image _ (encodeNumber (some m)) (placeOf σ i) (omega (arith, copy-fits)) (omega arith) size held;
+          octets = all ∙ placed-inside next image _ number (placeOf σ i) (omega (arith, copy-fits)) (omega arith) size held;
         }
 
 -- the buffer that was written is a scratch image

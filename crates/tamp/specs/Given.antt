@@ -40,13 +40,16 @@ pub record Signed (s : List ℕ) (q : Request) (i : ℕ) (image : List ℕ) : Ty
   pub decodes : decode image ≡ some store
   pub inside : i < length (anchors store)
 
+-- "its number becomes the signer's"
+abbrev pub numberedBy : List ℕ → Request → ℕ → Store → Store
+numberedBy s q i σ = withNumber i (seqNumIn s (q .msgref)) σ
+
 -- d with the image of σ written into it, r octets
 pub record Writes (σ : Store) (d : List ℕ) (r : ℕ) (d′ : List ℕ) : Type 0 where
   pub good : wellFormed σ ≡ true
   pub size : r ≡ length (encode σ)
   pub octets : d′ ≡ placed d 0 (encode σ)
 
--- .. the store of the image with the signer's number set
+-- .. of the image's store with the signer's number set
 abbrev pub Renumbers : List ℕ → Request → ℕ → List ℕ → List ℕ → ℕ → List ℕ → Type 0
-Renumbers s q i image d r d′ =
-    (σ : Store) → decode image ≡ some σ → Writes (withNumber i (seqNumIn s (q .msgref)) σ) d r d′
+Renumbers s q i image d r d′ = (σ : Store) → decode image ≡ some σ → Writes (numberedBy s q i σ) d r d′

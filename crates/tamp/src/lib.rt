@@ -27,16 +27,6 @@ use octets::Status;
 use protocol::Judgement;
 use syntax::TampType;
 
-// 01, Answers: the rooms of 203, the reply of 205, the message of 204.
-const REPLY_ROOM: usize = 10240;
-
-const IMAGE_ROOM: usize = 33717;
-
-const MAX_MESSAGE: usize = 8192;
-
-// 01, After acceptance: "1 to 16 entries".
-const MAX_UPDATES: usize = 16;
-
 // What the call returns: the number, and how much was written of the reply and of the next store.
 #[repr(C)]
 pub struct Answer {
@@ -97,10 +87,10 @@ fn is_verdict(image: &[u8], verdict: &[u8]) -> bool
 fn is_small(reply: usize, next: usize) -> bool
     ensures { λ r. ⌜ r ≡ (ltb reply replyRoom || ltb next imageRoom) ⌝ }
 {
-    if reply < REPLY_ROOM {
+    if reply < octets::REPLY_ROOM {
         return true;
     }
-    next < IMAGE_ROOM
+    next < octets::IMAGE_ROOM
 }
 
 // Writes the next store, behind a reply of n octets.
@@ -137,7 +127,7 @@ fn error(
 {
     let msgtype = der::contents(s, about);
     let repeated = der::whole(s, msgref);
-    if REPLY_ROOM < reply::error_size(msgtype, repeated) {
+    if octets::REPLY_ROOM < reply::error_size(msgtype, repeated) {
         return Answer::refusal(Status::LONG_REPLY);
     }
     let n = reply::put_error(reply, msgtype, status, repeated);
@@ -177,7 +167,7 @@ fn renumber(s: &[u8], q: Request, i: usize, image: &[u8], next: &mut [u8]) -> us
     image.len()
 }
 
-// Query: "identifiers in store order, then communities unless there are none". Numbers are no part of it: its size is that of the image as given.
+// Query: "identifiers in store order, then communities unless there are none". Numbers are no part of it: 205 is decided on the image as given.
 fn query(s: &[u8], q: Request, i: usize, image: &[u8], reply: &mut [u8], next: &mut [u8]) -> Answer
     requires { ⌜ Rooms (now s) (now reply) (now next) × Signed (now s) q i (now image) × (q .kind ≡ StatusQuery) ⌝ }
     ensures { λ r.
@@ -193,7 +183,7 @@ fn query(s: &[u8], q: Request, i: usize, image: &[u8], reply: &mut [u8], next: &
         (now (next .exit)) ⌝ }
 {
     let msgref = der::whole(s, q.msgref);
-    if REPLY_ROOM < reply::response_size(msgref, image) {
+    if octets::REPLY_ROOM < reply::response_size(msgref, image) {
         return Answer::refusal(Status::LONG_REPLY);
     }
     let k = renumber(s, q, i, image, next);
@@ -217,7 +207,7 @@ fn adjust(s: &[u8], q: Request, i: usize, image: &[u8], reply: &mut [u8], next: 
         (now (next .exit)) ⌝ }
 {
     let msgref = der::whole(s, q.msgref);
-    if REPLY_ROOM < reply::confirm_size(msgref) {
+    if octets::REPLY_ROOM < reply::confirm_size(msgref) {
         return Answer::refusal(Status::LONG_REPLY);
     }
     let n = reply::put_adjust_confirm(reply, msgref);
@@ -225,7 +215,7 @@ fn adjust(s: &[u8], q: Request, i: usize, image: &[u8], reply: &mut [u8], next: 
     Answer::reply(Status::SUCCESS, n, k)
 }
 
-// Community Update: "call and confirm carry the code". It is made on a scratch image.
+// Community Update: "call and confirm carry the code". Made on a scratch image: edits use octets behind the image, and those of the next store's buffer stay.
 fn community(
     s: &[u8],
     q: Request,
@@ -253,7 +243,7 @@ fn community(
     let end = done.len;
     let status = done.status;
     let msgref = der::whole(s, q.msgref);
-    if REPLY_ROOM < reply::confirm_size(msgref) {
+    if octets::REPLY_ROOM < reply::confirm_size(msgref) {
         return Answer::refusal(Status::LONG_REPLY);
     }
     let n = reply::put_community_confirm(reply, msgref, status);
@@ -282,14 +272,14 @@ fn confirm<'a>(
         (now (next .exit)) ⌝ }
 {
     let msgref = der::whole(s, q.msgref);
-    if REPLY_ROOM < reply::update_size(msgref, codes.len()) {
+    if octets::REPLY_ROOM < reply::update_size(msgref, codes.len()) {
         return Answer::refusal(Status::LONG_REPLY);
     }
     let n = reply::put_update_confirm(reply, msgref, codes);
     finish(Status::SUCCESS, n, store, next)
 }
 
-// Update: over 16 entries 17 for the message as a whole, by TAMP Error; else each entry in turn on a scratch image, by the signer's rights in the image as given.
+// Update: over 16 entries 17 for the message as a whole, by TAMP Error; else each entry in turn, on a scratch image, by the signer's rights in the image as given.
 fn update(s: &[u8], q: Request, i: usize, image: &[u8], reply: &mut [u8], next: &mut [u8]) -> Answer
     requires { ⌜ Rooms (now s) (now reply) (now next) × Signed (now s) q i (now image) × (q .kind ≡ Update) ⌝ }
     ensures { λ r.
@@ -307,7 +297,7 @@ fn update(s: &[u8], q: Request, i: usize, image: &[u8], reply: &mut [u8], next: 
     let mut work = [0u8; 33717];
     let len = renumber(s, q, i, image, &mut work);
     let count = message::count(s, message::updates_in(s, q.body, q.msgref));
-    if MAX_UPDATES < count {
+    if octets::MAX_UPDATES < count {
         return error(
             s,
             q.msgtype,
@@ -401,7 +391,7 @@ pub extern "C" fn tamp_call(
     if is_small(reply.len(), next.len()) {
         return Answer::refusal(Status::SMALL_BUFFER);
     }
-    if MAX_MESSAGE < message.len() {
+    if octets::MAX_MESSAGE < message.len() {
         return Answer::refusal(Status::LONG_MESSAGE);
     }
     decide(message, image, verdict, reply, next)

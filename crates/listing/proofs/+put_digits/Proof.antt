@@ -4,7 +4,7 @@ use Prim.Native.Nat.{_-_, _/_}
 use native.Mathlib.Omega.{arith}
 use Rattle.listing.specs.Texts.{decimalDigits}
 use Rattle.listing.proofs.Texts.{digits-stop, digits-zero, digits-on, digits-length}
-use Rattle.listing.proofs.Turns.{left-start, left-step, last-step, nothing-written}
+use Rattle.octets.proofs.Turns.{left-start, left-step, last-step, nothing-written}
 use Prim.Native.Nat.{ℕ, _<_}
 use borrow.Fn.Kinds.{In}
 use borrow.Fn.PlainCycle.{Measures, is, falls, and}

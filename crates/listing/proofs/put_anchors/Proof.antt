@@ -6,7 +6,7 @@ use Rattle.octets.specs.Ascii.{ascii, codesFrom}
 use Rattle.store.specs.Listing.{countLine}
 use Rattle.listing.specs.Texts.{anchorsText}
 use Rattle.listing.proofs.Texts.{anchors-are, anchors-length}
-use Rattle.listing.proofs.Turns.{left-start, left-step, last-step}
+use Rattle.octets.proofs.Turns.{left-start, left-step, last-step}
 use Rattle.listing.proofs.put_anchors.Statement.{statement}
 use Rattle.listing.proofs.put_anchors.Tie as tie
 

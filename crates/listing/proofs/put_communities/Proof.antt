@@ -6,7 +6,7 @@ use Rattle.octets.specs.Ascii.{ascii, codesFrom}
 use Rattle.store.specs.Listing.{countLine}
 use Rattle.listing.specs.Texts.{communitiesText}
 use Rattle.listing.proofs.Texts.{communities-are, communities-length}
-use Rattle.listing.proofs.Turns.{left-start, left-step, last-step}
+use Rattle.octets.proofs.Turns.{left-start, left-step, last-step}
 use Rattle.listing.proofs.put_communities.Statement.{statement}
 use Rattle.listing.proofs.put_communities.Tie as tie
 

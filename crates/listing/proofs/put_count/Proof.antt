@@ -5,7 +5,7 @@ use mathlib.Core.Path.{refl}
 use Rattle.store.specs.Listing.{countLine}
 use Rattle.listing.specs.Texts.{decimalLine}
 use Rattle.listing.proofs.Texts.{count-length}
-use Rattle.listing.proofs.Turns.{left-start, left-step, last-step}
+use Rattle.octets.proofs.Turns.{left-start, left-step, last-step}
 use Rattle.listing.proofs.put_count.Statement.{statement}
 use Rattle.listing.proofs.put_count.Tie as tie
 

@@ -7,7 +7,7 @@ use Rattle.octets.specs.Ascii.{ascii, codesFrom}
 use Rattle.store.specs.Listing.{hex}
 use Rattle.listing.specs.Texts.{deviceLine}
 use Rattle.listing.proofs.Texts.{device-is, device-length}
-use Rattle.listing.proofs.Turns.{left-start, left-step, last-step}
+use Rattle.octets.proofs.Turns.{left-start, left-step, last-step}
 use Rattle.listing.proofs.put_device.Statement.{statement}
 use Rattle.listing.proofs.put_device.Tie as tie
 

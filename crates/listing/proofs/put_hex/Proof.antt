@@ -6,7 +6,7 @@ use mathlib.Core.Path.{refl}
 use lib.ListN.{length, drop}
 use Rattle.store.specs.Listing.{hex}
 use Rattle.listing.proofs.Texts.{hex-turn, hex-end}
-use Rattle.listing.proofs.Turns.{Left, left-start, left-fits, left-step, left-end}
+use Rattle.octets.proofs.Turns.{Left, left-start, left-fits, left-step, left-end}
 use Rattle.listing.proofs.put_hex.Statement.{statement}
 use Rattle.listing.proofs.put_hex.Tie as tie
 

@@ -6,7 +6,7 @@ use mathlib.Core.Path.{refl}
 use Rattle.store.specs.Listing.{hex}
 use Rattle.listing.specs.Texts.{hexLine}
 use Rattle.listing.proofs.Texts.{hex-line-length}
-use Rattle.listing.proofs.Turns.{left-start, left-step, last-step}
+use Rattle.octets.proofs.Turns.{left-start, left-step, last-step}
 use Rattle.listing.proofs.put_hex_line.Statement.{statement}
 use Rattle.listing.proofs.put_hex_line.Tie as tie
 

@@ -4,7 +4,7 @@ use native.Mathlib.Omega.{arith}
 use mathlib.Core.Path.{refl}
 use Rattle.listing.specs.Texts.{deviceLine, anchorsText, imageText}
 use Rattle.listing.proofs.Texts.{image-length}
-use Rattle.listing.proofs.Turns.{left-start, left-step, last-step}
+use Rattle.octets.proofs.Turns.{left-start, left-step, last-step}
 use Rattle.listing.proofs.put_image.Statement.{statement}
 use Rattle.listing.proofs.put_image.Tie as tie
 

@@ -6,7 +6,7 @@ use mathlib.Core.Path.{refl}
 use Rattle.store.specs.Listing.{hex}
 use Rattle.listing.specs.Texts.{keyLine}
 use Rattle.listing.proofs.Texts.{key-is, key-length}
-use Rattle.listing.proofs.Turns.{left-start, left-step, last-step}
+use Rattle.octets.proofs.Turns.{left-start, left-step, last-step}
 use Rattle.listing.proofs.put_key.Statement.{statement}
 use Rattle.listing.proofs.put_key.Tie as tie
 

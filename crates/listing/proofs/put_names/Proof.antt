@@ -4,7 +4,7 @@ use mathlib.Core.Path.{refl}
 use lib.ListN.{drop}
 use Rattle.listing.specs.Texts.{hexLine, nameLines}
 use Rattle.listing.proofs.Texts.{names-line, names-end}
-use Rattle.listing.proofs.Turns.{Left, left-start, left-fits, left-step, left-end}
+use Rattle.octets.proofs.Turns.{Left, left-start, left-fits, left-step, left-end}
 use Rattle.listing.proofs.put_names.Statement.{statement}
 use Rattle.listing.proofs.put_names.Tie as tie
 

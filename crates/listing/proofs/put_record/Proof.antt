@@ -6,7 +6,7 @@ use mathlib.Core.Path.{refl}
 use Rattle.store.specs.Listing.{decimal}
 use Rattle.listing.specs.Texts.{roleField, recordLine}
 use Rattle.listing.proofs.Texts.{line-is, line-length}
-use Rattle.listing.proofs.Turns.{left-start, left-step, last-step}
+use Rattle.octets.proofs.Turns.{left-start, left-step, last-step}
 use Rattle.listing.proofs.put_record.Statement.{statement}
 use Rattle.listing.proofs.put_record.Tie as tie
 

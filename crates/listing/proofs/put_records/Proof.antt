@@ -7,7 +7,7 @@ use mathlib.Core.Path.{refl}
 use lib.ListN.{drop}
 use Rattle.listing.specs.Texts.{recordLine, recordLines}
 use Rattle.listing.proofs.Texts.{lines-turn, lines-end}
-use Rattle.listing.proofs.Turns.{Left, left-start, left-fits, left-step, left-end}
+use Rattle.octets.proofs.Turns.{Left, left-start, left-fits, left-step, left-end}
 use Rattle.listing.proofs.put_records.Statement.{statement}
 use Rattle.listing.proofs.put_records.Tie as tie
 

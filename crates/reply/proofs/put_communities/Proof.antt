@@ -7,7 +7,7 @@ use Rattle.der.specs.Write.{header}
 use Rattle.reply.specs.Parts.{communitiesFrom, communityParts}
 use Rattle.reply.proofs.Sizes.{length-element}
 use Rattle.reply.proofs.Members.{communities-none, communities-some, communities-whole}
-use Rattle.reply.proofs.Turns.{left-start, left-fits, left-step, last-fits, last-step, nothing-written}
+use Rattle.octets.proofs.Turns.{left-start, left-fits, left-step, last-fits, last-step, nothing-written}
 use Rattle.reply.proofs.put_communities.Statement.{statement}
 use Rattle.reply.proofs.put_communities.Tie as tie
 

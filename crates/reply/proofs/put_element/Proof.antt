@@ -4,7 +4,7 @@ use native.Mathlib.Omega.{arith}
 use mathlib.Core.Path.{refl}
 use lib.ListN.{length}
 use Rattle.der.specs.Write.{header, element}
-use Rattle.reply.proofs.Turns.{left-start, left-step, last-fits, last-step}
+use Rattle.octets.proofs.Turns.{left-start, left-step, last-fits, last-step}
 use Rattle.reply.proofs.Sizes.{element-is, length-element}
 use Rattle.reply.proofs.put_element.Statement.{statement}
 use Rattle.reply.proofs.put_element.Tie as tie

@@ -6,7 +6,7 @@ use Rattle.der.specs.Write.{element}
 use Rattle.store.specs.Parts.{identifierIn}
 use Rattle.reply.specs.Parts.{identifierParts, identifiersFrom}
 use Rattle.reply.proofs.Members.{identifiers-start, identifiers-turn, identifiers-end}
-use Rattle.reply.proofs.Turns.{Left, left-start, left-fits, left-step, left-end}
+use Rattle.octets.proofs.Turns.{Left, left-start, left-fits, left-step, left-end}
 use Rattle.reply.proofs.put_identifiers.Statement.{statement}
 use Rattle.reply.proofs.put_identifiers.Tie as tie
 

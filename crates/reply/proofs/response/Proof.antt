@@ -45,7 +45,7 @@ use Rattle.octets.specs.Octets.{placed}
 use Rattle.reply.specs.declared.Writer.{Writer}
 use Rattle.reply.specs.Written.{wrote}
 use Rattle.reply.proofs.Writer as T
-use Rattle.reply.proofs.Turns.{Left, left-start, left-room, left-turn, left-done}
+use Rattle.octets.proofs.Turns.{Left, left-start, left-room, left-turn, left-done}
 use Rattle.reply.proofs.Calls as calls
 use Rattle.reply.proofs.Calls.{machine, typed, New, Finish, SliceStep, Header}
 use Rattle.reply.proofs.new.Symbol as new-def
