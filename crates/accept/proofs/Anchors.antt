@@ -15,13 +15,13 @@ use Rattle.store.specs.declared.Found.{Found}
 use Rattle.store.specs.declared.Found.the-variants.{At, Unverified, Unknown}
 use Rattle.store.specs.Store.{Anchor, Store, anchors, identifierOf, identifiers}
 use Rattle.store.specs.Records.{recordsOf}
-use Rattle.store.specs.Parts.{anchorCount, firstRecord, numberIn}
+use Rattle.store.specs.Parts.{anchorCount, firstRecord, numberIn, anchorIn}
 use Rattle.store.specs.Signer.{signerFrom, signer}
 use Rattle.store.proofs.Walk.{records-of, signer-here, signer-unverified, signer-other}
 use Rattle.store.proofs.Parts.{records-count, record-at-position}
 use Rattle.protocol.specs.Acceptance.{rightsAt, numberAt}
 use Rattle.accept.specs.Signer.{recordOf, constraintsAt, rightsOn}
-use Rattle.accept.specs.Judged.{anchorOf, storeIn}
+use Rattle.accept.specs.Judged.{storeIn}
 
 -- the signer's position is that of an anchor
 module _ (verdict wanted : List ℕ) (j : ℕ) where
@@ -63,21 +63,21 @@ getD-made f (x ∷ l) zero a b h = refl
 getD-made f (x ∷ l) (suc i) a b h = getD-made f l i a b (omega arith)
 
 -- the first record is the apex
-listed : (l : List (List ℕ)) → 0 < length l → anchorOf (getD l 0 []) ∷ map anchorOf (drop 1 l) ≡ map anchorOf l
+listed : (l : List (List ℕ)) → 0 < length l → anchorIn (getD l 0 []) ∷ map anchorIn (drop 1 l) ≡ map anchorIn l
 listed [] h = absurd (omega arith)
 listed (r ∷ l) h = refl
 
 -- what stands at a record's position
 module _ (image : List ℕ) (i : ℕ) (h : i < length (recordsOf image)) where
-  pub anchors-are : anchors (storeIn image) ≡ map anchorOf (recordsOf image)
+  pub anchors-are : anchors (storeIn image) ≡ map anchorIn (recordsOf image)
   unfolding storeIn
   anchors-are = listed (recordsOf image) (omega arith)
 
-  anchor-at : anchorOf (recordOf image i) ≡ getD (anchors (storeIn image)) i (storeIn image .apex)
+  anchor-at : anchorIn (recordOf image i) ≡ getD (anchors (storeIn image)) i (storeIn image .apex)
   anchor-at =
       let n = records-count (anchorCount image) (drop (firstRecord image) image) in
-      ap anchorOf (sym (record-at-position image i (omega (arith, n, ap length (records-of image)))))
-      ∙ sym (getD-made anchorOf (recordsOf image) i [] (storeIn image .apex) h)
+      ap anchorIn (sym (record-at-position image i (omega (arith, n, ap length (records-of image)))))
+      ∙ sym (getD-made anchorIn (recordsOf image) i [] (storeIn image .apex) h)
       ∙ ap (λ (l : List Anchor). getD l i (storeIn image .apex)) (sym anchors-are)
 
   pub number-at : numberIn (recordOf image i) ≡ numberAt (storeIn image) i
@@ -91,6 +91,6 @@ pub rights-at : (image : List ℕ) (i : ℕ) → i < length (recordsOf image) �
 unfolding rightsOn
 rights-at image zero h = refl
 rights-at image (suc i) h =
-    let n = ap length (anchors-are image (suc i) h) ∙ length-map (recordsOf image) anchorOf in
+    let n = ap length (anchors-are image (suc i) h) ∙ length-map (recordsOf image) anchorIn in
     own-rights image (suc i) h
     ∙ sym (getD-made (λ a. rightsOf (a .info)) (storeIn image .others) i (storeIn image .apex) nothing (omega (arith, n)))

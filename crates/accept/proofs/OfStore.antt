@@ -10,6 +10,7 @@ use Rattle.der.specs.Element.{contents}
 use Rattle.store.specs.Store.{Store, anchors}
 use Rattle.store.specs.Image.{decode}
 use Rattle.store.specs.Records.{recordsOf}
+use Rattle.store.specs.Parts.{anchorIn}
 use Rattle.store.specs.Signer.{signer}
 use Rattle.store.proofs.Parts.{parts, identifiers-of}
 use Rattle.message.specs.declared.Received.{Received}
@@ -17,7 +18,7 @@ use Rattle.message.specs.declared.Received.the-variants.{Asks, Refused}
 use Rattle.message.specs.Rows.{received}
 use Rattle.message.proofs.Names.{names-written}
 use Rattle.protocol.specs.Acceptance.{bySigner, judgementOf, judgement}
-use Rattle.accept.specs.Judged.{anchorOf, storeIn, judgedOf, judgedIn}
+use Rattle.accept.specs.Judged.{storeIn, judgedOf, judgedIn}
 use Rattle.accept.proofs.Anchors.{anchors-are}
 
 module _ (image : List ℕ) (octets : Octets image) (σ : Store) (d : decode image ≡ some σ) where
@@ -25,7 +26,7 @@ module _ (image : List ℕ) (octets : Octets image) (σ : Store) (d : decode ima
   unfolding storeIn
   store-read =
       let p = parts image σ d in
-      let h : 0 < length (recordsOf image) = omega (arith, ap length (p .anchors-are), length-map (recordsOf image) anchorOf) in
+      let h : 0 < length (recordsOf image) = omega (arith, ap length (p .anchors-are), length-map (recordsOf image) anchorIn) in
       let all : anchors (storeIn image) ≡ anchors σ = anchors-are image 0 h ∙ p .anchors-are in
       let apex : storeIn image .apex ≡ σ .apex = cc in
       let others : storeIn image .others ≡ σ .others = cc in

@@ -4,9 +4,9 @@ use Prim.Native.Nat.{ℕ}
 use mathlib.Core.List.{List, [], map}
 use lib.ListN.{getD, drop}
 use Rattle.der.specs.Element.{contents}
-use Rattle.store.specs.Store.{Anchor, Store}
+use Rattle.store.specs.Store.{Store}
 use Rattle.store.specs.Records.{recordsOf}
-use Rattle.store.specs.Parts.{hwTypeIn, serialIn, communityOctets, infoIn, identifierIn, numberIn}
+use Rattle.store.specs.Parts.{hwTypeIn, serialIn, communityOctets, identifierIn, anchorIn}
 use Rattle.store.specs.Signer.{signer}
 use Rattle.message.specs.declared.Received.{Received}
 use Rattle.message.specs.declared.Received.the-variants.{Asks, Refused}
@@ -16,18 +16,14 @@ use Rattle.protocol.specs.declared.Judgement.{Judgement}
 use Rattle.protocol.specs.declared.Judgement.the-variants.{Refuses}
 use Rattle.protocol.specs.Acceptance.{bySigner}
 
--- the anchor of a record
-abbrev pub anchorOf : List ℕ → Anchor
-anchorOf r = record { number = numberIn r; info = infoIn r }
-
 -- octets read as a store: the first record is the apex, and every name behind the last one is a community
 unfoldable pub storeIn : List ℕ → Store
 storeIn image =
     let records = recordsOf image in
     record {
       device = record { hwType = hwTypeIn image; serial = serialIn image };
-      apex = anchorOf (getD records 0 []);
-      others = map anchorOf (drop 1 records);
+      apex = anchorIn (getD records 0 []);
+      others = map anchorIn (drop 1 records);
       communities = namesIn (communityOctets image);
     }
 

@@ -2,13 +2,11 @@
 use Prim.Native.Nat.{ℕ, suc, _+_, _-_, _≤_, _<_}
 use native.Mathlib.Omega.{arith}
 use mathlib.Core.Bool.{true}
-use mathlib.Core.List.{List, [], _∷_, _++_, flatMap, append-nil}
+use mathlib.Core.List.{List, [], _∷_, _++_, append-nil}
 use mathlib.Core.Path.{_≡_, refl, sym, ap, _∙_}
 use lib.ListN.{length, getD, take, drop}
-use lib.Seq.{split-at, length-take-le, take-take, take-at}
+use lib.Seq.{split-at, length-take-le}
 use Rattle.octets.specs.Limits.{imageRoom}
-use Rattle.octets.specs.Octets.{placed}
-use Rattle.octets.proofs.Placed.{take-behind-placed}
 use Rattle.store.specs.Store.{Store}
 use Rattle.store.specs.Image.{encodeName, encodeSection, encode, wellFormed}
 use Rattle.store.proofs.Sizes.{encode-length}
@@ -16,7 +14,7 @@ use Rattle.edit.specs.Places.{countAt, endOf, communityAt}
 use Rattle.edit.specs.Steps.{withCommunities, joined, allBut}
 use Rattle.edit.specs.Edits.{inserted, removed}
 use Rattle.edit.proofs.Sections.{size-more, size-less, section-inserted, section-removed}
-use Rattle.edit.proofs.Places.{front, front-length, communities-in, community-of, length-encode, end-inside, image-length}
+use Rattle.edit.proofs.Places.{front, front-length, communities-in, community-of, length-encode, image-length}
 use Rattle.edit.proofs.Writes.{length-name}
 
 module _ (σ : Store) (d : List ℕ) (len : ℕ) (holds : take len d ≡ encode σ) (room : len ≤ length d) where
@@ -50,16 +48,6 @@ module _ (σ : Store) (d : List ℕ) (len : ℕ) (holds : take len d ≡ encode 
       (holds ∙ communities-in σ ∙ ap (λ (l : List (List ℕ)). front σ ++ (encodeSection encodeName l ++ [])) (sym (append-nil l)))
       (omega arith)
       ∙ sym (communities-in (joined c σ)))
-
-  -- RFC 5934, 4.7: "all community identifiers MUST be removed"
-  pub clear-communities-law : take (endOf σ + 1) (placed d (endOf σ) (0 ∷ [])) ≡ encode (withCommunities [] σ)
-  unfolding flatMap
-  clear-communities-law =
-      let l : endOf σ < len = omega (arith, end-inside σ, image-length σ d len holds room) in
-      take-behind-placed d (endOf σ) (0 ∷ []) (omega arith)
-      ∙ ap (λ (s : List ℕ). s ++ (0 ∷ []))
-      (sym (take-take (endOf σ) len d (omega arith)) ∙ ap (take (endOf σ)) (holds ∙ communities-in σ) ∙ take-at (front σ) _ (endOf σ) (front-length σ))
-      ∙ sym (communities-in (withCommunities [] σ))
 
 -- Places and lengths after a step: the anchors stay where they are.
 

@@ -1,6 +1,5 @@
 // Edits on a scratch image: a lent buffer that holds an image in its first `len` octets, with free room behind it.
 ghost use mathlib.Core.Path.{_≡_};
-ghost use mathlib.Core.List.{[], _∷_};
 ghost use mathlib.Core.Option.{some};
 ghost use Prim.Native.Nat.{_+_, _-_, _<_, _≤_};
 ghost use lib.ListN.{length};
@@ -79,13 +78,4 @@ pub fn remove_item(buf: &mut [u8], len: usize, at: usize, n: usize, count: usize
     octets::move_down(buf, at + n, at, len - (at + n));
     buf[count] = items - 1;
     len - n
-}
-
-// Removes all communities: the image ends behind their count. Gives the new length.
-pub fn clear_communities(buf: &mut [u8], count: usize) -> usize
-    requires { ⌜ count < length (now buf) ⌝ }
-    ensures { λ r. ⌜ (r ≡ count + 1) × (now (buf .exit) ≡ placed (now (buf .entry)) count (0 ∷ [])) ⌝ }
-{
-    buf[count] = 0;
-    count + 1
 }

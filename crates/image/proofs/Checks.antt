@@ -22,12 +22,12 @@ use Rattle.store.specs.Store.{Anchor, keyOf}
 use Rattle.store.specs.Image.{Reader, found, provided, passOn, readNumber, readSized, readTimes, numberOk, readDevice, readAnchor, readCommunity}
 use Rattle.store.specs.Image.{readDeviceSection, readAnchorSection, readCommunitySection, readStore, alone, decode}
 use Rattle.store.specs.Records.{recordsFrom}
-use Rattle.store.specs.Parts.{recordEnd, recordAt, infoIn, publicKeyIn, nameEnd, nameAt, namesFrom, isSought, firstFrom, infosFrom}
+use Rattle.store.specs.Parts.{recordEnd, recordAt, infoIn, publicKeyIn, anchorIn, nameEnd, nameAt, namesFrom, isSought, firstFrom, infosFrom}
 use Rattle.store.proofs.Readers.{allowed, refused, passes, passes-none, readSection}
 use Rattle.store.proofs.Formats.{apart}
 use Rattle.store.proofs.Places.{number-one, octet-at, octet-short, sized-at, judged, anchor-at}
 use Rattle.store.proofs.Walk.{cut-take, records-turn, names-turn}
-use Rattle.store.proofs.Taken.{anchorIn, anchors-taken}
+use Rattle.store.proofs.Taken.{anchors-taken}
 use Rattle.store.proofs.Parts.{isAt, first-any}
 use Rattle.image.specs.Check.{isGiven, isImage, behind}
 

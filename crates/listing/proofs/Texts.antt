@@ -20,11 +20,10 @@ use Rattle.anchor.specs.Role.{roleOf}
 use Rattle.store.specs.Store.{Anchor, Store}
 use Rattle.store.specs.Image.{decode}
 use Rattle.store.specs.Records.{recordsFrom}
-use Rattle.store.specs.Parts.{hwTypeIn, serialIn, anchorCount, firstRecord, recordEnd, recordAt, infoIn, identifierIn, numberIn, nameEnd, nameAt, namesFrom}
+use Rattle.store.specs.Parts.{hwTypeIn, serialIn, anchorCount, firstRecord, recordEnd, recordAt, infoIn, identifierIn, numberIn, anchorIn, nameEnd, nameAt, namesFrom}
 use Rattle.store.specs.Parts.{communityCount, communityOctets, communitiesOf}
 use Rattle.store.specs.Listing.{hexDigit, hex, decimal, blank, newline, roleText, anchorLine, anchorLines, countLine, storeText, listingOf, listing}
 use Rattle.store.proofs.Walk.{records-of, records-turn, names-turn}
-use Rattle.store.proofs.Taken.{anchorIn}
 use Rattle.store.proofs.Parts.{parts, count-of-anchors, count-of-communities}
 use Rattle.image.specs.Check.{isGiven, isImage}
 use Rattle.listing.specs.Texts.{hexLine, decimalDigits, decimalLine, numberLine, roleField, keyLine, recordLine, recordLines, nameLines}

@@ -7,10 +7,9 @@ use Rattle.octets.specs.Ascii.{ascii}
 use Rattle.octets.specs.Number.{digits}
 use Rattle.anchor.specs.declared.AnchorRole.{AnchorRole}
 use Rattle.anchor.specs.declared.AnchorRole.the-variants.{Apex, Management, Identity}
-use Rattle.store.specs.Store.{Anchor}
 use Rattle.store.specs.Records.{recordsFrom}
 use Rattle.store.specs.Listing.{hex, decimal, blank, newline, numberText, anchorLine, anchorLines, countLine}
-use Rattle.store.specs.Parts.{hwTypeIn, serialIn, anchorCount, firstRecord, infoIn, identifierIn, numberIn, namesFrom, communityCount, communityOctets}
+use Rattle.store.specs.Parts.{hwTypeIn, serialIn, anchorCount, firstRecord, identifierIn, numberIn, anchorIn, namesFrom, communityCount, communityOctets}
 
 unfoldable pub hexLine : List ℕ → List ℕ
 hexLine s = hex s ++ (newline ∷ [])
@@ -35,16 +34,12 @@ roleField Identity = ascii "identity "
 unfoldable pub keyLine : List ℕ → List ℕ
 keyLine r = hex (identifierIn r) ++ (blank ∷ numberLine (numberIn r))
 
--- the anchor of a record
-abbrev anchorOf : List ℕ → Anchor
-anchorOf r = record { number = numberIn r; info = infoIn r }
-
 unfoldable pub recordLine : ℕ → List ℕ → List ℕ
-recordLine position r = anchorLine position (anchorOf r)
+recordLine position r = anchorLine position (anchorIn r)
 
 -- the lines of the n records at the head of octets, of which the first has the position i
 unfoldable pub recordLines : ℕ → ℕ → List ℕ → List ℕ
-recordLines i n s = anchorLines i (map anchorOf (recordsFrom n s))
+recordLines i n s = anchorLines i (map anchorIn (recordsFrom n s))
 
 -- the lines of the n names at the head of octets
 unfoldable pub nameLines : ℕ → List ℕ → List ℕ

@@ -22,12 +22,12 @@ use Rattle.store.specs.Image.{found, readSized, readTimes, readDevice, r
 use Rattle.store.specs.Image.{readStore, decode, encodeName}
 use Rattle.store.specs.Records.{recordsFrom, recordsOf}
 use Rattle.store.specs.Parts.{hwTypeIn, serialPlace, serialIn, anchorPlace, anchorCount, firstRecord, recordEnd, recordAt, recordPlace}
-use Rattle.store.specs.Parts.{infoIn, identifierIn, publicKeyIn, numberIn, communityPlace, communityCount, communityOctets, namesFrom, communitiesOf, firstFrom}
+use Rattle.store.specs.Parts.{infoIn, identifierIn, publicKeyIn, numberIn, anchorIn, communityPlace, communityCount, communityOctets, namesFrom, communitiesOf, firstFrom}
 use Rattle.store.proofs.Readers.{same-found, as-found, granted, passed, passes}
 use Rattle.store.proofs.Formats.{listed, communitySection}
 use Rattle.store.proofs.RoundTrip.{alone-found}
 use Rattle.store.proofs.Walk.{records-turn, records-of, first-here, first-later}
-use Rattle.store.proofs.Taken.{octet-taken, name-taken, names-taken, anchorIn, Anchors, anchors-taken}
+use Rattle.store.proofs.Taken.{octet-taken, name-taken, names-taken, Anchors, anchors-taken}
 
 octet-at : (s : List ℕ) (p : ℕ) → octet (drop p s) 0 ≡ octet s p
 octet-at s p =

@@ -11,7 +11,7 @@ use Rattle.octets.specs.Number.{number, numberFrom}
 use Rattle.store.specs.Store.{Anchor}
 use Rattle.store.specs.Image.{found, readOctets, readNumber, readSized, readTimes, readAnchor, readCommunity, presentNumber}
 use Rattle.store.specs.Records.{recordsFrom}
-use Rattle.store.specs.Parts.{recordEnd, recordPlace, infoIn, numberIn, namesFrom}
+use Rattle.store.specs.Parts.{recordEnd, recordPlace, infoIn, numberIn, anchorIn, namesFrom}
 use Rattle.store.proofs.Readers.{same-found, granted, passed}
 use Rattle.store.proofs.Walk.{cut-take, cut-drop, drop-take, records-turn}
 
@@ -77,10 +77,6 @@ names-taken (suc n) s l t e =
     sym (same-found _ _ _ _ (q .second) .0) ∙ ap₂ _∷_ (h .0) (i ∙ ap (namesFrom n) (h .1))
 
 -- a record, cut from the octets
-
--- the anchor of a record
-abbrev pub anchorIn : List ℕ → Anchor
-anchorIn r = record { number = numberIn r; info = infoIn r }
 
 module _ (s : List ℕ) (m : ℕ) where
   cut-info : infoIn (take (11 + m) s) ≡ take m (drop 11 s)

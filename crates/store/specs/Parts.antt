@@ -13,6 +13,7 @@ use Rattle.store.specs.declared.Sought.{Sought}
 use Rattle.store.specs.declared.Sought.the-variants.{PublicKey, TaggedPublicKey}
 use Rattle.store.specs.declared.Position.{Position}
 use Rattle.store.specs.declared.Position.the-variants.{At, Nothing}
+use Rattle.store.specs.Store.{Anchor}
 use Rattle.store.specs.Image.{presentNumber}
 use Rattle.store.specs.Records.{recordsFrom}
 
@@ -64,6 +65,10 @@ publicKeyIn r = publicKey (infoIn r)
 
 unfoldable pub numberIn : List ℕ → Option ℕ
 numberIn r = presentNumber (octet r 0) (number (take 8 (drop 1 r)))
+
+-- the anchor of a record
+abbrev pub anchorIn : List ℕ → Anchor
+anchorIn r = record { number = numberIn r; info = infoIn r }
 
 -- an anchor's number as the code has it
 abbrev pub numberOf : Number → Option ℕ
