@@ -98,7 +98,7 @@ computed-message = tt
 
 unfoldable computed-reply : Unit {0}
 unfolding
-    Rattle.reply.specs.Replies.tampError Rattle.reply.specs.Replies.communityList Rattle.reply.specs.Replies.statusResponse
+    Rattle.reply.specs.Replies.tampError Rattle.reply.specs.Replies.listOf Rattle.reply.specs.Replies.statusResponse
     Rattle.reply.specs.Replies.updateConfirm Rattle.reply.specs.Replies.communityConfirm Rattle.reply.specs.Replies.adjustConfirm
 computed-reply = tt
 

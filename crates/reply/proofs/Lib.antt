@@ -3,6 +3,7 @@ pub mod Held
 pub mod Codes
 pub mod Calls
 pub mod Sizes
+pub mod Chain
+pub mod TwoParts
 pub mod Members
-pub mod Answer
 pub mod SliceOp

@@ -1,6 +1,6 @@
--- The identifiers and the communities of an image, one element behind the other: what a walk over the image finds at each turn, and how much there is.
-use Prim.Native.Nat.{ℕ, zero, suc, _+_, _-_, _*_, _≤_, _<_}
-use native.Mathlib.Nat.{suc-mul, mul-le-mul, mul-le-mul-right}
+-- The identifiers and the communities of an image, one element behind the other: what a walk over the image finds at each turn, the lists of them, and how much there is.
+use Prim.Native.Nat.{ℕ, zero, suc, _+_, _-_, _*_, _^_, _≤_, _<_}
+use native.Mathlib.Nat.{suc-mul, mul-le-mul-right}
 use native.Mathlib.Omega.{arith}
 use mathlib.Core.List.{List, [], _∷_, _++_, map, flatMap}
 use mathlib.Core.Path.{_≡_, refl, sym, ap, ap₂, _∙_}
@@ -10,14 +10,14 @@ use borrow.Author.Tests.{eqb-true, eqb-false}
 use Rattle.octets.specs.Octets.{Octets, part}
 use Rattle.octets.proofs.Lists.{by-test}
 use Rattle.der.specs.Write.{header, element}
-use Rattle.store.specs.Records.{recordsFrom}
+use Rattle.store.specs.Records.{recordsFrom, recordsOf}
 use Rattle.anchor.specs.Info.{keyIdField}
 use Rattle.store.specs.Parts.{anchorPlace, anchorCount, firstRecord, recordEnd, recordAt, infoIn, identifierIn, nameEnd, nameAt, namesFrom, communityPlace}
 use Rattle.store.specs.Parts.{communityCount, communityOctets, communitiesOf}
 use Rattle.store.proofs.Walk.{records-of, records-turn, names-turn}
-use Rattle.reply.specs.Replies.{communityList}
-use Rattle.reply.specs.Parts.{elementSize, identifiersFrom, identifierParts, communitiesFrom, communityParts}
-use Rattle.reply.proofs.Sizes.{element-is, length-element, length-octets}
+use Rattle.reply.specs.Replies.{listOf}
+use Rattle.reply.specs.Parts.{elementSize, identifiersFrom, identifierParts, communitiesFrom, communityParts, terseSize}
+use Rattle.reply.proofs.Sizes.{length-element, length-octets, HasMembers}
 
 -- Any members that stand one behind the other in octets: n of them from a place on, the one at a place, and its end.
 module _ (tag : ℕ) (from : ℕ → List ℕ → List (List ℕ)) (at : List ℕ → ℕ → List ℕ) (end : List ℕ → ℕ → ℕ)
@@ -41,6 +41,16 @@ module _ (tag : ℕ) (from : ℕ → List ℕ → List (List ℕ)) (at : List �
       let n : left ≡ 0 = omega arith in
       ap (λ (k : ℕ). elements k s) n ∙ ap (flatMap (element tag)) (none s)
 
+  -- the list of n members: nothing where there are none
+  list-none : (s : List ℕ) (n : ℕ) → n ≡ 0 → listOf tag (from n s) ≡ []
+  unfolding listOf
+  list-none s n e = ap (λ (k : ℕ). listOf tag (from k s)) e ∙ ap (listOf tag) (none s)
+
+  list-some : (s : List ℕ) (n : ℕ) → (n ≡ 0 → ⊥) → listOf tag (from n s) ≡ element 0x30 (elements n s)
+  unfolding listOf
+  list-some s zero h = absurd (h refl)
+  list-some s (suc n) h = ap (listOf tag) (turn s n 0) ∙ ap (λ (l : List (List ℕ)). element 0x30 (flatMap (element tag) l)) (sym (turn s n 0))
+
   elements-size : (s : List ℕ) (p left : ℕ) {x : List ℕ} {e : ℕ} → 0 < left → x ≡ at s p → e ≡ end s p
       → length (elements left (drop p s)) ≡ elementSize (length x) + length (elements (left - 1) (drop e s))
   elements-size s p left {x} {e} h u v =
@@ -56,6 +66,22 @@ module _ (tag : ℕ) (from : ℕ → List ℕ → List (List ℕ)) (at : List �
       let b = elements-bound s short n (end s p) in
       omega (arith, rw z at l, b, short p, length-octets (length (at s p)), suc-mul n (length s + 10))
 
+  list-bound : (s : List ℕ) → ((p : ℕ) → length (at s p) ≤ length s) → (n p : ℕ) → n ≤ 255
+      → length (listOf tag (from n (drop p s))) ≤ 255 * (length s + 10) + 10
+  list-bound s short n p h =
+      let l = elements n (drop p s) in
+      by-test (eqb n 0)
+      (λ e. omega (arith, ap length (list-none (drop p s) n (eqb-true n 0 e))))
+      (λ e.
+      omega (
+        arith,
+        ap length (list-some (drop p s) n (eqb-false n 0 e)),
+        length-element 0x30 l,
+        length-octets (length l),
+        elements-bound s short n p,
+        mul-le-mul-right (length s + 10) h,
+      ))
+
 -- identifiers
 
 abbrev identifiersIn : ℕ → List ℕ → List (List ℕ)
@@ -70,10 +96,6 @@ no-records s = refl
 
 records-on : (s : List ℕ) (n p : ℕ) → identifiersIn (suc n) (drop p s) ≡ identifierAt s p ∷ identifiersIn n (drop (recordEnd s p) s)
 records-on s n p = ap (map identifierIn) (records-turn s n p)
-
-pub identifiers-start : (image : List ℕ) → identifierParts image ≡ identifiersFrom (anchorCount image) (drop (firstRecord image) image)
-unfolding identifierParts identifiersFrom
-identifiers-start image = ap (λ (l : List (List ℕ)). flatMap (element 0x04) (map identifierIn l)) (records-of image)
 
 pub identifiers-turn : (s : List ℕ) (p left : ℕ) {x : List ℕ} {e : ℕ} → 0 < left → x ≡ identifierAt s p → e ≡ recordEnd s p
     → identifiersFrom left (drop p s) ≡ element 0x04 x ++ identifiersFrom (left - 1) (drop e s)
@@ -109,25 +131,42 @@ pub communities-size : (s : List ℕ) (p left : ℕ) {x : List ℕ} {e : ℕ} �
 unfolding communitiesFrom
 communities-size = elements-size 0x06 namesFrom nameAt nameEnd no-names names-turn
 
--- none, and at least one
+-- the lists of an image
+
+identifiers-of : (image : List ℕ) {n p : ℕ} → n ≡ anchorCount image → p ≡ firstRecord image
+    → identifierParts image ≡ listOf 0x04 (identifiersIn n (drop p image))
+unfolding identifierParts
+identifiers-of image u v =
+    ap (λ (l : List (List ℕ)). listOf 0x04 (map identifierIn l)) (records-of image)
+    ∙ ap₂ (λ (k q : ℕ). listOf 0x04 (identifiersIn k (drop q image))) (sym u) (sym v)
+
+pub identifiers-none : (image : List ℕ) {n : ℕ} → n ≡ anchorCount image → n ≡ 0 → identifierParts image ≡ []
+identifiers-none image {n} u e =
+    identifiers-of image u refl
+    ∙ list-none 0x04 identifiersIn identifierAt recordEnd no-records records-on (drop (firstRecord image) image) n e
+
+pub identifiers-some : (image : List ℕ) {n p : ℕ} → n ≡ anchorCount image → (n ≡ 0 → ⊥) → p ≡ firstRecord image
+    → HasMembers (identifierParts image) (identifiersFrom n (drop p image))
+unfolding identifiersFrom
+identifiers-some image {n} {p} u h v = record {
+  is = identifiers-of image u v ∙ list-some 0x04 identifiersIn identifierAt recordEnd no-records records-on (drop p image) n h;
+}
+
+communities-of : (image : List ℕ) {n : ℕ} {names : List ℕ} → n ≡ communityCount image → names ≡ communityOctets image
+    → communityParts image ≡ listOf 0x06 (namesFrom n names)
+unfolding communityParts communitiesOf
+communities-of image u v = ap₂ (λ (k : ℕ) (s : List ℕ). listOf 0x06 (namesFrom k s)) (sym u) (sym v)
 
 pub communities-none : (image : List ℕ) {n : ℕ} → n ≡ communityCount image → n ≡ 0 → communityParts image ≡ []
-unfolding communityParts communitiesOf communityList namesFrom
-communities-none image u e = ap (λ (k : ℕ). communityList (namesFrom k (communityOctets image))) (sym u ∙ e)
+communities-none image {n} u e =
+    communities-of image u refl ∙ list-none 0x06 namesFrom nameAt nameEnd no-names names-turn (communityOctets image) n e
 
-list-some : (n : ℕ) (s : List ℕ) → (n ≡ 0 → ⊥) → communityList (namesFrom n s) ≡ element 0x30 (communitiesFrom n s)
-unfolding communityList communitiesFrom namesFrom
-list-some zero s h = absurd (h refl)
-list-some (suc n) s h = refl
-
--- n is the count, and names their octets
-module _ (image : List ℕ) {n : ℕ} {names : List ℕ} (u : n ≡ communityCount image) (h : n ≡ 0 → ⊥) (v : names ≡ communityOctets image) where
-  pub communities-some : communityParts image ≡ element 0x30 (communitiesFrom n names)
-  unfolding communityParts communitiesOf
-  communities-some = ap₂ (λ (k : ℕ) (s : List ℕ). communityList (namesFrom k s)) (sym u) (sym v) ∙ list-some n names h
-
-  pub communities-whole : (m : ℕ) → m ≡ length (communitiesFrom n names) → communityParts image ≡ header 0x30 m ++ communitiesFrom n names
-  communities-whole m e = communities-some ∙ element-is 0x30 m (communitiesFrom n names) e
+pub communities-some : (image : List ℕ) {n : ℕ} {names : List ℕ} → n ≡ communityCount image → (n ≡ 0 → ⊥) → names ≡ communityOctets image
+    → HasMembers (communityParts image) (communitiesFrom n names)
+unfolding communitiesFrom
+communities-some image {n} {names} u h v = record {
+  is = communities-of image u v ∙ list-some 0x06 namesFrom nameAt nameEnd no-names names-turn names n h;
+}
 
 -- how much there is, at most
 
@@ -141,31 +180,23 @@ identifier-short s p =
     let f = keyIdField t in
     omega (arith, part-short t (f .start) (f .stop), length-drop 11 r, part-short s p (recordEnd s p))
 
-pub identifiers-bound : (image : List ℕ) → Octets image → length (identifierParts image) ≤ 255 * (length image + 10)
-unfolding identifiersFrom anchorCount
+identifiers-bound : (image : List ℕ) → Octets image → length (identifierParts image) ≤ 255 * (length image + 10) + 10
+unfolding anchorCount
 identifiers-bound image o =
     let n = anchorCount image in
-    let b = elements-bound 0x04 identifiersIn identifierAt recordEnd no-records records-on image (identifier-short image) n (firstRecord image) in
     let h : n ≤ 255 = omega (arith, o (anchorPlace image)) in
-    omega (arith, ap length (identifiers-start image), b, mul-le-mul-right (length image + 10) h)
+    rw (identifiers-of image {n = n} refl refl) (list-bound 0x04 identifiersIn identifierAt recordEnd no-records records-on image (identifier-short image) n
+    (firstRecord image) h)
 
-pub communities-bound : (image : List ℕ) → Octets image → length (communityParts image) ≤ 255 * (length image + 10) + 10
-unfolding communitiesFrom communityCount communityOctets
+communities-bound : (image : List ℕ) → Octets image → length (communityParts image) ≤ 255 * (length image + 10) + 10
+unfolding communityCount communityOctets
 communities-bound image o =
     let n = communityCount image in
     let s = communityOctets image in
-    let b = elements-bound 0x06 namesFrom nameAt nameEnd no-names names-turn s (λ p. part-short s (p + 1) (nameEnd s p)) n 0 in
     let h : n ≤ 255 = omega (arith, o (communityPlace image)) in
-    let k : length s + 10 ≤ length image + 10 = omega (arith, length-drop (communityPlace image + 1) image) in
-    by-test (eqb n 0)
-    (λ e. omega (arith, ap length (communities-none image refl (eqb-true n 0 e))))
-    (λ e.
-    let l = communitiesFrom n s in
-    omega (
-      arith,
-      ap length (communities-some image refl (eqb-false n 0 e) refl),
-      length-element 0x30 l,
-      length-octets (length l),
-      b,
-      mul-le-mul h k,
-    ))
+    let b = list-bound 0x06 namesFrom nameAt nameEnd no-names names-turn s (λ p. part-short s (p + 1) (nameEnd s p)) n 0 h in
+    omega (arith, b, ap length (communities-of image {n = n} {names = s} refl refl), length-drop (communityPlace image + 1) image)
+
+-- for an image of less than 2 ^ 32 octets that is far from 2 ^ 63
+pub terse-small : (image : List ℕ) → Octets image → length image < 2 ^ 32 → terseSize image < 2 ^ 62
+terse-small image o l = omega (arith, identifiers-bound image o, communities-bound image o)

@@ -14,15 +14,16 @@ statusCode status = element 0x0A (status .number ∷ [])
 unfoldable pub tampError : List ℕ → Status → List ℕ → List ℕ
 tampError msgType status msgRef = element 0x30 (element 0x06 msgType ++ (statusCode status ++ msgRef))
 
--- "then communities unless there are none": CommunityIdentifierList OPTIONAL
-unfoldable pub communityList : List (List ℕ) → List ℕ
-communityList [] = []
-communityList (c ∷ l) = element 0x30 (flatMap (element 0x06) (c ∷ l))
+-- SEQUENCE SIZE (1..MAX) OF members with this tag: there is none of no members
+unfoldable pub listOf : ℕ → List (List ℕ) → List ℕ
+listOf tag [] = []
+listOf tag (c ∷ l) = element 0x30 (flatMap (element tag) (c ∷ l))
 
--- TAMPStatusResponse ::= SEQUENCE { query TAMPMsgRef, response CHOICE { terseResponse [0] SEQUENCE { taKeyIds KeyIdentifiers, communities OPTIONAL } } }
+-- TAMPStatusResponse ::= SEQUENCE { query TAMPMsgRef, response CHOICE { terseResponse [0] SEQUENCE { taKeyIds KeyIdentifiers, communities CommunityIdentifierList OPTIONAL } } }
+-- "identifiers in store order, then communities unless there are none". KeyIdentifiers is never empty: a store has its apex.
 unfoldable pub statusResponse : List ℕ → List (List ℕ) → List (List ℕ) → List ℕ
 statusResponse msgRef identifiers communities =
-    element 0x30 (msgRef ++ element 0xA0 (element 0x30 (flatMap (element 0x04) identifiers) ++ communityList communities))
+    element 0x30 (msgRef ++ element 0xA0 (listOf 0x04 identifiers ++ listOf 0x06 communities))
 
 -- TAMPUpdateConfirm ::= SEQUENCE { update TAMPMsgRef, confirm CHOICE { terseConfirm [0] StatusCodeList } }
 unfoldable pub updateConfirm : List ℕ → List Status → List ℕ

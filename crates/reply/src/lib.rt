@@ -2,7 +2,7 @@
 ghost use mathlib.Core.Path.{_≡_};
 ghost use mathlib.Core.List.{List, map};
 ghost use Prim.Native.Nat.{_+_, _*_, _^_, _≤_, _<_};
-ghost use lib.ListN.{length};
+ghost use lib.ListN.{length, drop};
 ghost use Rattle.octets.specs.Octets.{placed};
 ghost use Rattle.octets.specs.declared.Status.{Status};
 ghost use Rattle.octets.specs.Limits.{maxMessage};
@@ -13,17 +13,13 @@ ghost use Rattle.reply.specs.Parts.{
   statusOf,
   statusCodes,
   elementSize,
-  errorParts,
-  errorContents,
-  updateParts,
-  updateContents,
-  confirmParts,
+  identifiersFrom,
   identifierParts,
   communitiesFrom,
   communityParts,
-  responseParts,
-  responseContents,
-  responseSizes,
+  replyParts,
+  contentsSize,
+  terseSize,
   responseOf,
 };
 use octets::Status;
@@ -72,26 +68,57 @@ fn put_element(buf: &mut [u8], at: usize, tag: u8, s: &[u8]) -> usize
     put_octets(buf, p, s)
 }
 
-// KeyIdentifiers: 04, length and identifier, for each anchor of the image.
+// The octets that the identifiers of the n records from place p on take.
+fn key_identifiers_size(image: &[u8], p: usize, n: usize) -> usize
+    requires { ⌜ length (identifiersFrom n (drop p (now image))) < 2 ^ 63 ⌝ }
+    ensures { λ r. ⌜ r ≡ length (identifiersFrom n (drop p (now (image .entry)))) ⌝ }
+{
+    let mut size = 0;
+    let mut q = p;
+    let mut left = n;
+    while 0 < left {
+        size += element_size(store::identifier_of(store::record_at(image, q)).len());
+        q = store::record_end(image, q);
+        left -= 1;
+    }
+    size
+}
+
+// 04, length and identifier, for each of the n records from place p on.
+fn put_key_identifiers(buf: &mut [u8], at: usize, image: &[u8], p: usize, n: usize) -> usize
+    requires { ⌜ at + length (identifiersFrom n (drop p (now image))) ≤ length (now buf) ⌝ }
+    ensures { λ r. ⌜ (r ≡ at + length (identifiersFrom n (drop p (now (image .entry)))))
+        × (now (buf .exit) ≡ placed (now (buf .entry)) at (identifiersFrom n (drop p (now (image .entry))))) ⌝ }
+{
+    let mut to = at;
+    let mut q = p;
+    let mut left = n;
+    while 0 < left {
+        to = put_element(
+            buf,
+            to,
+            0x04,
+            store::identifier_of(store::record_at(image, q)),
+        );
+        q = store::record_end(image, q);
+        left -= 1;
+    }
+    to
+}
+
+// KeyIdentifiers, of the image's anchors; nothing where there are none.
 fn put_identifiers(buf: &mut [u8], at: usize, image: &[u8]) -> usize
     requires { ⌜ at + length (identifierParts (now image)) ≤ length (now buf) ⌝ }
     ensures { λ r. ⌜ (r ≡ at + length (identifierParts (now (image .entry))))
         × (now (buf .exit) ≡ placed (now (buf .entry)) at (identifierParts (now (image .entry)))) ⌝ }
 {
-    let mut q = at;
-    let mut p = store::first_record(image);
-    let mut left = store::anchor_count(image);
-    while 0 < left {
-        q = put_element(
-            buf,
-            q,
-            0x04,
-            store::identifier_of(store::record_at(image, p)),
-        );
-        p = store::record_end(image, p);
-        left -= 1;
+    let n = store::anchor_count(image);
+    if n == 0 {
+        return at;
     }
-    q
+    let first = store::first_record(image);
+    let p = der::put_header(buf, at, 0x30, key_identifiers_size(image, first, n));
+    put_key_identifiers(buf, p, image, first, n)
 }
 
 // The octets that the n names take as OIDs.
@@ -223,25 +250,19 @@ fn communities<'a, 'b>(w: Writer<'a>, image: &'b [u8]) -> Writer<'a>
 
 // How many octets each takes, before anything is written. What they are made of are parts of a message, of at most 8,192 octets.
 
-fn error_contents(m: usize, k: usize) -> usize
-    requires { ⌜ m + k < 2 ^ 63 ⌝ }
-    ensures { λ r. ⌜ (r ≡ errorContents m k) × (r ≤ m + k + 13) ⌝ }
+// Of a reply's contents: what stands first, an element of m octets, and what stands behind it.
+fn contents_size(lead: usize, m: usize, trail: usize) -> usize
+    requires { ⌜ lead + m + trail < 2 ^ 63 ⌝ }
+    ensures { λ r. ⌜ (r ≡ contentsSize lead m trail) × (r ≤ lead + m + trail + 10) ⌝ }
 {
-    element_size(m) + 3 + k
-}
-
-fn update_contents(k: usize, count: usize) -> usize
-    requires { ⌜ k + 3 * count < 2 ^ 63 ⌝ }
-    ensures { λ r. ⌜ (r ≡ updateContents k count) × (r ≤ k + 3 * count + 10) ⌝ }
-{
-    k + element_size(3 * count)
+    lead + element_size(m) + trail
 }
 
 pub fn error_size(msgtype: &[u8], msgref: &[u8]) -> usize
     requires { ⌜ (length (now msgtype) ≤ maxMessage) × (length (now msgref) ≤ maxMessage) ⌝ }
     ensures { λ r. ⌜ ((status : Status) → r ≡ length (tampError (now (msgtype .entry)) status (now (msgref .entry)))) ⌝ }
 {
-    element_size(error_contents(msgtype.len(), msgref.len()))
+    element_size(contents_size(0, msgtype.len(), 3 + msgref.len()))
 }
 
 // Of a confirm of `count` entries.
@@ -249,7 +270,7 @@ pub fn update_size(msgref: &[u8], count: usize) -> usize
     requires { ⌜ (length (now msgref) ≤ maxMessage) × (count ≤ maxMessage) ⌝ }
     ensures { λ r. ⌜ ((l : List Status) → length l ≡ count → r ≡ length (updateConfirm (now (msgref .entry)) l)) ⌝ }
 {
-    element_size(update_contents(msgref.len(), count))
+    element_size(contents_size(msgref.len(), 3 * count, 0))
 }
 
 // Of the confirms of Community Update and Adjust, which have one status.
@@ -258,22 +279,18 @@ pub fn confirm_size(msgref: &[u8]) -> usize
     ensures { λ r. ⌜ ((status : Status) → r ≡ length (communityConfirm (now (msgref .entry)) status))
         × (r ≡ length (adjustConfirm (now (msgref .entry)))) ⌝ }
 {
-    element_size(msgref.len() + 3)
+    element_size(contents_size(msgref.len(), 1, 0))
 }
 
 fn identifiers_size(image: &[u8]) -> usize
     requires { ⌜ length (identifierParts (now image)) < 2 ^ 63 ⌝ }
     ensures { λ r. ⌜ r ≡ length (identifierParts (now (image .entry))) ⌝ }
 {
-    let mut size = 0;
-    let mut p = store::first_record(image);
-    let mut left = store::anchor_count(image);
-    while 0 < left {
-        size += element_size(store::identifier_of(store::record_at(image, p)).len());
-        p = store::record_end(image, p);
-        left -= 1;
+    let n = store::anchor_count(image);
+    if n == 0 {
+        return 0;
     }
-    size
+    element_size(key_identifiers_size(image, store::first_record(image), n))
 }
 
 fn communities_size(image: &[u8]) -> usize
@@ -287,25 +304,12 @@ fn communities_size(image: &[u8]) -> usize
     element_size(names_size(store::community_octets(image), n))
 }
 
-// The sizes that the headers of a status response take: the contents, the terse response in them, and the identifiers in that.
-pub struct ResponseSizes {
-    pub contents: usize,
-    pub terse: usize,
-    pub identifiers: usize,
-}
-
-// Behind k octets of msgRef.
-fn response_sizes(k: usize, image: &[u8]) -> ResponseSizes
-    requires { ⌜ responseContents k (now image) < 2 ^ 63 ⌝ }
-    ensures { λ r. ⌜ r ≡ responseSizes k (now (image .entry)) ⌝ }
+// Of the terse response, in its tag.
+fn terse_size(image: &[u8]) -> usize
+    requires { ⌜ terseSize (now image) < 2 ^ 63 ⌝ }
+    ensures { λ r. ⌜ r ≡ terseSize (now (image .entry)) ⌝ }
 {
-    let identifiers = identifiers_size(image);
-    let terse = element_size(identifiers) + communities_size(image);
-    ResponseSizes {
-        contents: k + element_size(terse),
-        terse: terse,
-        identifiers: identifiers,
-    }
+    identifiers_size(image) + communities_size(image)
 }
 
 // Of a status response of the store with this image.
@@ -313,78 +317,41 @@ pub fn response_size(msgref: &[u8], image: &[u8]) -> usize
     requires { ⌜ (length (now msgref) ≤ maxMessage) × (length (now image) < 2 ^ 32) ⌝ }
     ensures { λ r. ⌜ r ≡ length (responseOf (now (msgref .entry)) (now (image .entry))) ⌝ }
 {
-    let s = response_sizes(msgref.len(), image);
-    element_size(s.contents)
+    element_size(contents_size(msgref.len(), terse_size(image), 0))
 }
 
-// The replies, part by part.
-
-fn error<'a, 'b>(
+// A reply, part by part, each in its place: n octets of contents; what stands first in them; the header of m octets, and behind it octets, status codes, what an
+// image lists, and octets. A reply leaves out what it has not.
+fn put_reply<'a, 'b>(
     buf: &'a mut [u8],
     n: usize,
+    lead: &'b [u8],
+    tag: u8,
     m: usize,
-    msgtype: &'b [u8],
-    code: &'b [u8],
-    msgref: &'b [u8],
-) -> usize
-    requires { ⌜ length (errorParts n m (now msgtype) (now code) (now msgref)) ≤ length (now buf) ⌝ }
-    ensures { λ r. ⌜ (r ≡ length (errorParts n m (now (msgtype .entry)) (now (code .entry)) (now (msgref .entry))))
-        × (now (buf .exit) ≡ placed (now (buf .entry)) 0 (errorParts n m (now (msgtype .entry)) (now (code .entry)) (now (msgref .entry)))) ⌝ }
-{
-    let w = new(buf);
-    let w = header(w, 0x30, n);
-    let w = header(w, 0x06, m);
-    let w = append(w, msgtype);
-    let w = statuses(w, code);
-    let w = append(w, msgref);
-    finish(w)
-}
-
-fn update<'a, 'b>(buf: &'a mut [u8], n: usize, msgref: &'b [u8], m: usize, codes: &'b [u8]) -> usize
-    requires { ⌜ length (updateParts n (now msgref) m (now codes)) ≤ length (now buf) ⌝ }
-    ensures { λ r. ⌜ (r ≡ length (updateParts n (now (msgref .entry)) m (now (codes .entry))))
-        × (now (buf .exit) ≡ placed (now (buf .entry)) 0 (updateParts n (now (msgref .entry)) m (now (codes .entry)))) ⌝ }
-{
-    let w = new(buf);
-    let w = header(w, 0x30, n);
-    let w = append(w, msgref);
-    let w = header(w, 0xA0, m);
-    let w = statuses(w, codes);
-    finish(w)
-}
-
-fn confirm<'a, 'b>(buf: &'a mut [u8], n: usize, msgref: &'b [u8], tag: u8, code: &'b [u8]) -> usize
-    requires { ⌜ length (confirmParts n (now msgref) tag (now code)) ≤ length (now buf) ⌝ }
-    ensures { λ r. ⌜ (r ≡ length (confirmParts n (now (msgref .entry)) tag (now (code .entry))))
-        × (now (buf .exit) ≡ placed (now (buf .entry)) 0 (confirmParts n (now (msgref .entry)) tag (now (code .entry)))) ⌝ }
-{
-    let w = new(buf);
-    let w = header(w, 0x30, n);
-    let w = append(w, msgref);
-    let w = header(w, tag, 1);
-    let w = append(w, code);
-    finish(w)
-}
-
-fn response<'a, 'b>(
-    buf: &'a mut [u8],
-    n: usize,
-    msgref: &'b [u8],
-    a: usize,
-    m: usize,
+    contents: &'b [u8],
+    codes: &'b [u8],
     image: &'b [u8],
+    trail: &'b [u8],
 ) -> usize
-    requires { ⌜ length (responseParts n (now msgref) a m (now image)) ≤ length (now buf) ⌝ }
-    ensures { λ r. ⌜ (r ≡ length (responseParts n (now (msgref .entry)) a m (now (image .entry))))
-        × (now (buf .exit) ≡ placed (now (buf .entry)) 0 (responseParts n (now (msgref .entry)) a m (now (image .entry)))) ⌝ }
+    requires { ⌜ length (replyParts n (now lead) tag m (now contents) (now codes) (now image) (now trail)) ≤ length (now buf) ⌝ }
+    ensures { λ r.
+        ⌜
+        (r ≡ length (replyParts n (now (lead .entry)) tag m (now (contents .entry)) (now (codes .entry)) (now (image .entry)) (now (trail .entry))))
+        × (now (buf .exit)
+        ≡ placed
+        (now (buf .entry))
+        0
+        (replyParts n (now (lead .entry)) tag m (now (contents .entry)) (now (codes .entry)) (now (image .entry)) (now (trail .entry)))) ⌝ }
 {
     let w = new(buf);
     let w = header(w, 0x30, n);
-    let w = append(w, msgref);
-    let w = header(w, 0xA0, a);
-    let w = header(w, 0x30, m);
+    let w = append(w, lead);
+    let w = header(w, tag, m);
+    let w = append(w, contents);
+    let w = statuses(w, codes);
     let w = identifiers(w, image);
     let w = communities(w, image);
+    let w = append(w, trail);
     finish(w)
 }
 
@@ -402,9 +369,10 @@ pub fn put_error<'a, 'b>(
         × (now (buf .exit) ≡ placed (now (buf .entry)) 0 (tampError (now (msgtype .entry)) status (now (msgref .entry)))) ⌝ }
 {
     let m = msgtype.len();
-    let n = error_contents(m, msgref.len());
+    let n = contents_size(0, m, 3 + msgref.len());
+    let none = &msgref[..0];
     let code = [status.number as u8];
-    error(buf, n, m, msgtype, &code, msgref)
+    put_reply(buf, n, none, 0x06, m, msgtype, &code, none, msgref)
 }
 
 // TAMPUpdateConfirm, of the entries' statuses as octets
@@ -413,9 +381,10 @@ pub fn put_update_confirm<'a, 'b>(buf: &'a mut [u8], msgref: &'b [u8], codes: &'
     ensures { λ r. ⌜ (r ≡ length (updateConfirm (now (msgref .entry)) (map statusOf (now (codes .entry)))))
         × (now (buf .exit) ≡ placed (now (buf .entry)) 0 (updateConfirm (now (msgref .entry)) (map statusOf (now (codes .entry))))) ⌝ }
 {
-    let count = codes.len();
-    let n = update_contents(msgref.len(), count);
-    update(buf, n, msgref, 3 * count, codes)
+    let m = 3 * codes.len();
+    let n = contents_size(msgref.len(), m, 0);
+    let none = &msgref[..0];
+    put_reply(buf, n, msgref, 0xA0, m, none, codes, none, none)
 }
 
 // TAMPCommunityUpdateConfirm
@@ -424,8 +393,10 @@ pub fn put_community_confirm(buf: &mut [u8], msgref: &[u8], status: Status) -> u
     ensures { λ r. ⌜ (r ≡ length (communityConfirm (now (msgref .entry)) status))
         × (now (buf .exit) ≡ placed (now (buf .entry)) 0 (communityConfirm (now (msgref .entry)) status)) ⌝ }
 {
+    let n = contents_size(msgref.len(), 1, 0);
+    let none = &msgref[..0];
     let code = [status.number as u8];
-    confirm(buf, msgref.len() + 3, msgref, 0x80, &code)
+    put_reply(buf, n, msgref, 0x80, 1, &code, none, none, none)
 }
 
 // SequenceNumberAdjustConfirm
@@ -434,8 +405,10 @@ pub fn put_adjust_confirm(buf: &mut [u8], msgref: &[u8]) -> usize
     ensures { λ r. ⌜ (r ≡ length (adjustConfirm (now (msgref .entry))))
         × (now (buf .exit) ≡ placed (now (buf .entry)) 0 (adjustConfirm (now (msgref .entry)))) ⌝ }
 {
+    let n = contents_size(msgref.len(), 1, 0);
+    let none = &msgref[..0];
     let code = [0u8];
-    confirm(buf, msgref.len() + 3, msgref, 0x0A, &code)
+    put_reply(buf, n, msgref, 0x0A, 1, &code, none, none, none)
 }
 
 // TAMPStatusResponse, of the store with this image
@@ -444,6 +417,8 @@ pub fn put_status_response<'a, 'b>(buf: &'a mut [u8], msgref: &'b [u8], image: &
     ensures { λ r. ⌜ (r ≡ length (responseOf (now (msgref .entry)) (now (image .entry))))
         × (now (buf .exit) ≡ placed (now (buf .entry)) 0 (responseOf (now (msgref .entry)) (now (image .entry)))) ⌝ }
 {
-    let s = response_sizes(msgref.len(), image);
-    response(buf, s.contents, msgref, s.terse, s.identifiers, image)
+    let m = terse_size(image);
+    let n = contents_size(msgref.len(), m, 0);
+    let none = &msgref[..0];
+    put_reply(buf, n, msgref, 0xA0, m, none, none, image, none)
 }

@@ -3,9 +3,9 @@ use borrow.Author.Needs.{needs}
 use native.Mathlib.Omega.{arith}
 use mathlib.Core.Path.{sym, ap, _∙_}
 use lib.ListN.{length}
-use Rattle.reply.specs.Parts.{elementSize, communitiesFrom}
+use Rattle.reply.specs.Parts.{elementSize}
 use Rattle.reply.proofs.Members.{communities-none, communities-some}
-use Rattle.reply.proofs.Sizes.{length-element}
+use Rattle.reply.proofs.Sizes.{length-list}
 use Rattle.reply.proofs.communities_size.Statement.{statement}
 use Rattle.reply.proofs.communities_size.Tie as tie
 
@@ -19,35 +19,24 @@ community-octets-requires : tie.Need-community-octets-requires
 community-octets-requires c κs = search needs
 
 names-size-requires : tie.Need-names-size-requires
-names-size-requires c κs =
-    let a = c .before .before .before .before .args in
-    omega (
-      arith,
-      ap length (communities-some (a .image .now) (c .before .before .community-count .ensures) (c .before .if1 .left)
-          (c .community-octets .ensures)),
-      length-element 0x30 (communitiesFrom (c .before .before .community-count .result) (c .community-octets .result .now)),
-    )
+names-size-requires c κs = omega (
+  arith,
+  length-list (communities-some (c .before .before .before .before .args .image .now) (c .before .before .community-count .ensures) (c .before .if1 .left) (c .community-octets .ensures)),
+)
 
 element-size-requires : tie.Need-element-size-requires
-element-size-requires c κs =
-    let a = c .before .before .before .before .before .args in
-    omega (
-      arith,
-      c .names-size .ensures,
-      ap length (communities-some (a .image .now) (c .before .before .before .community-count .ensures)
-          (c .before .before .if1 .left)
-          (c .before .community-octets .ensures)),
-      length-element 0x30 (communitiesFrom (c .before .before .before .community-count .result)
-          (c .before .community-octets .result .now)),
-    )
+element-size-requires c κs = omega (
+  arith,
+  c .names-size .ensures,
+  length-list (communities-some (c .before .before .before .before .before .args .image .now) (c .before .before .before .community-count .ensures) (c .before .before .if1 .left) (c .before .community-octets .ensures)),
+)
 
 returns-2 : tie.Need-returns-2
 returns-2 c =
-    let a = c .before .before .before .before .before .before .args in
-    let l = communitiesFrom (c .before .before .before .before .community-count .result) (c .before .before .community-octets .result .now) in
-    c .element-size .ensures .0 ∙ ap elementSize (c .before .names-size .ensures) ∙ sym (ap length (communities-some (a .image .now)
-    (c .before .before .before .before .community-count .ensures) (c .before .before .before .if1 .left)
-    (c .before .before .community-octets .ensures)) ∙ length-element 0x30 l)
+    c .element-size .ensures .0
+    ∙ ap elementSize (c .before .names-size .ensures)
+    ∙ sym (length-list (communities-some (c .before .before .before .before .before .before .args .image .now) (c .before .before .before .before .community-count .ensures) (c .before .before .before .if1 .left)
+    (c .before .before .community-octets .ensures)))
 
 pub communities-size-spec : {M : Type 1} → statement M
 communities-size-spec =

@@ -1,21 +1,26 @@
 -- `reply::confirm_size` meets its contract. Assumes nothing.
-use mathlib.Core.Path.{sym, _∙_}
-use Rattle.reply.proofs.Sizes.{community-size, adjust-size}
 use borrow.Author.Needs.{needs}
+use mathlib.Core.Path.{sym, ap, _∙_}
+use Rattle.reply.specs.Parts.{elementSize}
+use Rattle.reply.proofs.Sizes.{community-size, adjust-size}
 use Rattle.reply.proofs.confirm_size.Statement.{statement}
 use Rattle.reply.proofs.confirm_size.Tie as tie
+use Rattle.reply.proofs.confirm_size.Reads as reads
+use Rattle.reply.proofs.confirm_size.Lts as lts
+use Rattle.reply.proofs.contents_size.Reads as contents-size-reads
+use Rattle.reply.proofs.element_size.Reads as element-size-reads
 
-add-element-size : tie.Need-add-element-size
-add-element-size c = search needs
+contents-size-requires : tie.Need-contents-size-requires
+contents-size-requires c κs = search needs
 
 element-size-requires : tie.Need-element-size-requires
 element-size-requires c κs = search needs
 
 returns : tie.Need-returns
 returns c =
-    let a = c .before .before .args in
-    let e = c .element-size .ensures .0 in
+    let a = c .before .before .before .args in
+    let e = c .element-size .ensures .0 ∙ ap elementSize (c .before .contents-size .ensures .0) in
     (λ status. e ∙ sym (community-size (a .msgref .now) status), e ∙ sym (adjust-size (a .msgref .now)))
 
 pub confirm-size-spec : {M : Type 1} → statement M
-confirm-size-spec = tie.close (tie.spec add-element-size element-size-requires returns)
+confirm-size-spec = tie.close (tie.spec contents-size-requires element-size-requires returns)

@@ -1,96 +1,57 @@
--- `reply::identifiers_size` meets its contract. The loop: the size so far, and that of the identifiers left, are the size of all. Assumes nothing.
+-- `reply::identifiers_size` meets its contract. Assumes nothing.
 use borrow.Author.Needs.{needs}
-use Prim.Native.Nat.{_+_}
 use native.Mathlib.Omega.{arith}
-use mathlib.Core.Path.{_≡_, refl, ap, _∙_}
-use lib.ListN.{length, drop}
-use Rattle.store.specs.Parts.{identifierIn}
-use Rattle.reply.specs.Parts.{identifierParts, identifiersFrom}
-use Rattle.reply.proofs.Members.{identifiers-start, identifiers-size, identifiers-end}
+use mathlib.Core.Path.{sym, ap, _∙_}
+use lib.ListN.{length}
+use Rattle.reply.specs.Parts.{elementSize}
+use Rattle.reply.proofs.Members.{identifiers-none, identifiers-some}
+use Rattle.reply.proofs.Sizes.{length-list}
 use Rattle.reply.proofs.identifiers_size.Statement.{statement}
 use Rattle.reply.proofs.identifiers_size.Tie as tie
+use Rattle.reply.proofs.identifiers_size.Reads as reads
+use Rattle.reply.proofs.identifiers_size.Lts as lts
+use Rattle.reply.proofs.element_size.Reads as element-size-reads
+use Rattle.reply.proofs.key_identifiers_size.Reads as key-identifiers-size-reads
+use Rattle.store.proofs.anchor_count.Reads as anchor-count-reads
+use Rattle.store.proofs.first_record.Reads as first-record-reads
 
-abbrev Inv-loop : tie.InvT-loop
-Inv-loop image size₀ p₀ left₀ size p left = size + length (identifiersFrom left (drop p image)) ≡ length (identifierParts image)
-
-abbrev μ-loop : tie.MeasureT-loop
-μ-loop image size₀ p₀ left₀ size p left = left
-
-first-record-requires : tie.Need-first-record-requires Inv-loop μ-loop
-first-record-requires c κs = search needs
-
-anchor-count-requires : tie.Need-anchor-count-requires Inv-loop μ-loop
+anchor-count-requires : tie.Need-anchor-count-requires
 anchor-count-requires c κs = search needs
 
-loop-holds : tie.Need-loop-holds Inv-loop μ-loop
-loop-holds c =
-    rw (c .anchor-count .ensures, c .before .first-record .ensures, ← identifiers-start (c .before .before .before .args .image .now)) (omega arith)
+returns : tie.Need-returns
+returns c =
+    ap length (sym (identifiers-none (c .before .before .before .args .image .now) (c .before .anchor-count .ensures) (c .if1 .taken)))
 
-record-at-requires : tie.Need-record-at-requires Inv-loop μ-loop
-record-at-requires c κs = search needs
+first-record-requires : tie.Need-first-record-requires
+first-record-requires c κs = search needs
 
-identifier-of-requires : tie.Need-identifier-of-requires Inv-loop μ-loop
-identifier-of-requires c κs = search needs
+key-identifiers-size-requires : tie.Need-key-identifiers-size-requires
+key-identifiers-size-requires c κs = omega (
+  arith,
+  length-list (identifiers-some (c .before .before .before .before .args .image .now) (c .before .before .anchor-count .ensures) (c .before .if1 .left) (c .first-record .ensures)),
+)
 
-element-size-requires : tie.Need-element-size-requires Inv-loop μ-loop
+element-size-requires : tie.Need-element-size-requires
 element-size-requires c κs = omega (
   arith,
-  identifiers-size (c .before .before .before .before .before .before .before .args .image .now)
-      (c .before .before .before .loop .p) (c .before .before .before .loop .left) (c .before .before .loop-test .taken)
-      (c .identifier-of .ensures ∙ ap identifierIn (c .before .record-at .ensures)) refl,
+  c .key-identifiers-size .ensures,
+  length-list (identifiers-some (c .before .before .before .before .before .args .image .now) (c .before .before .before .anchor-count .ensures) (c .before .before .if1 .left) (c .before .first-record .ensures)),
 )
 
-add-size : tie.Need-add-size Inv-loop μ-loop
-add-size c = record {
-  fits = omega (
-    arith,
-    c .element-size .ensures .0,
-    identifiers-size
-        (c .before .before .before .before .before .before .before .before .args .image .now) (c .before .before .before .before .loop .p)
-        (c .before .before .before .before .loop .left) (c .before .before .before .loop-test .taken)
-        (c .before .identifier-of .ensures ∙ ap identifierIn (c .before .before .record-at .ensures)) refl,
-  );
-}
-
-record-end-requires : tie.Need-record-end-requires Inv-loop μ-loop
-record-end-requires c κs = search needs
-
-sub-left : tie.Need-sub-left Inv-loop μ-loop
-sub-left c = search needs
-
-loop-less : tie.Need-loop-less Inv-loop μ-loop
-loop-less c = search needs
-
-loop-again : tie.Need-loop-again Inv-loop μ-loop
-loop-again c = omega (
-  arith,
-  c .before .element-size .ensures .0,
-  identifiers-size
-      (c .before .before .before .before .before .before .before .before .before .args .image .now) (c .before .before .before .before .before .loop .p)
-      (c .before .before .before .before .before .loop .left) (c .before .before .before .before .loop-test .taken)
-      (c .before .before .identifier-of .ensures ∙ ap identifierIn (c .before .before .before .record-at .ensures)) (c .record-end .ensures),
-)
-
-returns : tie.Need-returns Inv-loop μ-loop
-returns c =
-    let l = c .before .loop in
-    omega (arith, ap length (identifiers-end (drop (l .p) (c .before .before .before .before .before .args .image .now)) (l .left) (c .loop-test .left)))
+returns-2 : tie.Need-returns-2
+returns-2 c =
+    c .element-size .ensures .0
+    ∙ ap elementSize (c .before .key-identifiers-size .ensures)
+    ∙ sym (length-list (identifiers-some (c .before .before .before .before .before .before .args .image .now) (c .before .before .before .before .anchor-count .ensures) (c .before .before .before .if1 .left)
+    (c .before .before .first-record .ensures)))
 
 pub identifiers-size-spec : {M : Type 1} → statement M
 identifiers-size-spec =
     tie.close
     (tie.spec
-    Inv-loop
-    μ-loop
-    first-record-requires
     anchor-count-requires
-    loop-holds
-    record-at-requires
-    identifier-of-requires
+    returns
+    first-record-requires
+    key-identifiers-size-requires
     element-size-requires
-    add-size
-    record-end-requires
-    sub-left
-    loop-less
-    loop-again
-    returns)
+    returns-2)

@@ -1,31 +1,47 @@
 -- `reply::put_adjust_confirm` meets its contract. Assumes nothing.
 use borrow.Author.Needs.{needs}
 use native.Mathlib.Omega.{arith}
-use lib.ListN.{length}
 use mathlib.Core.Path.{ap}
-use Rattle.reply.proofs.Sizes.{written-whole, adjust-parts}
+use lib.ListN.{length}
+use Rattle.reply.proofs.Sizes.{written-whole, adjust-size, adjust-parts}
 use Rattle.reply.proofs.put_adjust_confirm.Statement.{statement}
 use Rattle.reply.proofs.put_adjust_confirm.Tie as tie
+use Rattle.reply.proofs.put_adjust_confirm.Reads as reads
+use Rattle.reply.proofs.put_adjust_confirm.Lts as lts
+use Rattle.reply.proofs.contents_size.Reads as contents-size-reads
+use Rattle.reply.proofs.put_reply.Reads as put-reply-reads
 
-add-confirm : tie.Need-add-confirm
-add-confirm c = search needs
+contents-size-requires : tie.Need-contents-size-requires
+contents-size-requires c κs =
+    let a = c .before .before .args in
+    omega (arith, adjust-size (a .msgref .now))
 
-slice-aggregate-confirm : tie.Need-slice-aggregate-confirm
-slice-aggregate-confirm c = search needs
+slice-aggregate-none : tie.Need-slice-aggregate-none
+slice-aggregate-none c = search needs
 
-confirm-requires : tie.Need-confirm-requires
-confirm-requires c κs =
-    let a = c .before .before .before .before .args in
-    omega (arith, ap length (adjust-parts (a .msgref .now)))
+slice-aggregate-put-reply : tie.Need-slice-aggregate-put-reply
+slice-aggregate-put-reply c = search needs
+
+put-reply-requires : tie.Need-put-reply-requires
+put-reply-requires c κs =
+    let a = c .before .before .before .before .before .before .args in
+    omega (arith, ap length (adjust-parts (a .msgref .now) (c .before .before .before .contents-size .ensures .0)))
 
 same-length : tie.Need-same-length
 same-length c = search needs
 
 returns : tie.Need-returns
 returns c =
-    let a = c .before .before .before .before .before .before .before .args in
-    written-whole (a .buf .now) (adjust-parts (a .msgref .now)) (c .before .before .confirm .ensures)
+    let a = c .before .before .before .before .before .before .before .before .before .args in
+    written-whole (a .buf .now) (adjust-parts (a .msgref .now) (c .before .before .before .before .before .before .contents-size .ensures .0)) (c .before .before .put-reply .ensures)
 
 pub put-adjust-confirm-spec : {M : Type 1} → statement M
 put-adjust-confirm-spec =
-    tie.close (tie.spec add-confirm slice-aggregate-confirm confirm-requires same-length returns)
+    tie.close
+    (tie.spec
+    contents-size-requires
+    slice-aggregate-none
+    slice-aggregate-put-reply
+    put-reply-requires
+    same-length
+    returns)

@@ -1,15 +1,19 @@
 -- `reply::put_communities` meets its contract. Assumes nothing.
 use borrow.Author.Needs.{needs}
 use native.Mathlib.Omega.{arith}
-use mathlib.Core.Path.{ap}
-use lib.ListN.{length}
-use Rattle.der.specs.Write.{header}
-use Rattle.reply.specs.Parts.{communitiesFrom, communityParts}
-use Rattle.reply.proofs.Sizes.{length-element}
-use Rattle.reply.proofs.Members.{communities-none, communities-some, communities-whole}
-use Rattle.octets.proofs.Turns.{left-start, left-fits, left-step, last-fits, last-step, nothing-written}
+use Rattle.reply.proofs.Sizes.{length-list}
+use Rattle.reply.proofs.Members.{communities-none, communities-some}
+use Rattle.octets.proofs.Turns.{nothing-written}
+use Rattle.reply.proofs.TwoParts.{header-fits, members-fit, list-written}
 use Rattle.reply.proofs.put_communities.Statement.{statement}
 use Rattle.reply.proofs.put_communities.Tie as tie
+use Rattle.reply.proofs.put_communities.Reads as reads
+use Rattle.reply.proofs.put_communities.Lts as lts
+use Rattle.der.proofs.put_header.Reads as put-header-reads
+use Rattle.reply.proofs.names_size.Reads as names-size-reads
+use Rattle.reply.proofs.put_names.Reads as put-names-reads
+use Rattle.store.proofs.community_count.Reads as community-count-reads
+use Rattle.store.proofs.community_octets.Reads as community-octets-reads
 
 community-count-requires : tie.Need-community-count-requires
 community-count-requires c κs = search needs
@@ -24,34 +28,24 @@ community-octets-requires c κs = search needs
 
 names-size-requires : tie.Need-names-size-requires
 names-size-requires c κs =
-    let a = c .before .before .before .before .before .before .args in
-    let l = communitiesFrom (c .before .before .before .community-count .result) (c .before .community-octets .result .now) in
     omega (
       arith,
-      ap length (communities-some (a .image .now) (c .before .before .before .community-count .ensures) (c .before .before .if1 .left)
+      length-list (communities-some (c .before .before .before .before .before .before .args .image .now) (c .before .before .before .community-count .ensures) (c .before .before .if1 .left)
           (c .before .community-octets .ensures)),
-      length-element 0x30 l,
     )
 
 put-header-requires : tie.Need-put-header-requires
 put-header-requires c κs =
     let a = c .before .before .before .before .before .before .before .args in
-    let all = communityParts (a .image .now) in
-    left-fits (a .buf .now) (a .at) all (c .before .before .before .before .before .before .before .pre) (left-start (a .buf .now) (a .at) all)
-    (header 0x30 (c .names-size .result)) _ (communities-whole (a .image .now) (c .before .before .before .before .community-count .ensures)
-    (c .before .before .before .if1 .left) (c .before .before .community-octets .ensures) _ (c .names-size .ensures))
+    header-fits (a .buf .now) (a .at) (c .before .before .before .before .before .before .before .pre) (communities-some (a .image .now) (c .before .before .before .before .community-count .ensures) (c .before .before .before .if1 .left)
+    (c .before .before .community-octets .ensures)) (c .names-size .ensures)
 
 put-names-requires : tie.Need-put-names-requires
 put-names-requires c κs =
     let a = c .before .before .before .before .before .before .before .before .before .before .before .args in
-    let all = communityParts (a .image .now) in
-    let l = left-step (a .buf .now) (a .at) all (c .before .before .before .before .before .before .before .before .before .before .before .pre)
-    (left-start (a .buf .now) (a .at) all) (header 0x30 (c .before .before .before .before .names-size .result)) _ (communities-whole (a .image .now)
-    (c .before .before .before .before .before .before .before .before .community-count .ensures)
-    (c .before .before .before .before .before .before .before .if1 .left)
-    (c .before .before .before .before .before .before .community-octets .ensures) _ (c .before .before .before .before .names-size .ensures))
-    (c .before .before .before .put-header .ensures) in
-    last-fits (a .buf .now) (a .at) all (c .before .before .before .before .before .before .before .before .before .before .before .pre) l
+    members-fit (a .buf .now) (a .at) (c .before .before .before .before .before .before .before .before .before .before .before .pre) (communities-some (a .image .now) (c .before .before .before .before .before .before .before .before .community-count .ensures)
+    (c .before .before .before .before .before .before .before .if1 .left) (c .before .before .before .before .before .before .community-octets .ensures)) (c .before .before .before .before .names-size .ensures)
+    (c .before .before .before .put-header .ensures)
 
 same-length : tie.Need-same-length
 same-length c = search needs
@@ -59,19 +53,10 @@ same-length c = search needs
 returns-2 : tie.Need-returns-2
 returns-2 c =
     let a = c .before .before .before .before .before .before .before .before .before .before .before .before .before .before .args in
-    let all = communityParts (a .image .now) in
-    let l = left-step (a .buf .now)
-    (a .at) all (c .before .before .before .before .before .before .before .before .before .before .before .before .before .before .pre)
-    (left-start (a .buf .now) (a .at) all)
-    (header 0x30 (c .before .before .before .before .before .before .before .names-size .result)) _ (communities-whole (a .image .now)
-    (c .before .before .before .before .before .before .before .before .before .before .before .community-count .ensures)
-    (c .before .before .before .before .before .before .before .before .before .before .if1 .left)
-    (c .before .before .before .before .before .before .before .before .before .community-octets .ensures) _
-    (c .before .before .before .before .before .before .before .names-size .ensures))
-    (c .before .before .before .before .before .before .put-header .ensures) in
-    last-step (a .buf .now)
-    (a .at) all (c .before .before .before .before .before .before .before .before .before .before .before .before .before .before .pre) l
-    (c .before .before .put-names .ensures)
+    list-written (a .buf .now) (a .at) (c .before .before .before .before .before .before .before .before .before .before .before .before .before .before .pre)
+    (communities-some (a .image .now) (c .before .before .before .before .before .before .before .before .before .before .before .community-count .ensures)
+    (c .before .before .before .before .before .before .before .before .before .before .if1 .left) (c .before .before .before .before .before .before .before .before .before .community-octets .ensures))
+    (c .before .before .before .before .before .before .before .names-size .ensures) (c .before .before .before .before .before .before .put-header .ensures) (c .before .before .put-names .ensures)
 
 pub put-communities-spec : {M : Type 1} → statement M
 put-communities-spec =

@@ -1,35 +1,51 @@
 -- `reply::put_community_confirm` meets its contract. Assumes nothing.
 use borrow.Author.Needs.{needs}
 use native.Mathlib.Omega.{arith}
-use lib.ListN.{length}
 use mathlib.Core.Path.{ap}
-use Rattle.reply.proofs.Sizes.{written-whole, community-parts}
+use lib.ListN.{length}
+use Rattle.reply.proofs.Sizes.{written-whole, community-size, community-parts}
 use Rattle.reply.proofs.put_community_confirm.Statement.{statement}
 use Rattle.reply.proofs.put_community_confirm.Tie as tie
+use Rattle.reply.proofs.put_community_confirm.Reads as reads
+use Rattle.reply.proofs.put_community_confirm.Lts as lts
+use Rattle.reply.proofs.contents_size.Reads as contents-size-reads
+use Rattle.reply.proofs.put_reply.Reads as put-reply-reads
 
-cast-t5 : tie.Need-cast-t5
-cast-t5 c = search needs
+contents-size-requires : tie.Need-contents-size-requires
+contents-size-requires c κs =
+    let a = c .before .before .args in
+    omega (arith, community-size (a .msgref .now) (a .status))
 
-add-confirm : tie.Need-add-confirm
-add-confirm c = search needs
+slice-aggregate-none : tie.Need-slice-aggregate-none
+slice-aggregate-none c = search needs
 
-slice-aggregate-confirm : tie.Need-slice-aggregate-confirm
-slice-aggregate-confirm c = search needs
+cast-t9 : tie.Need-cast-t9
+cast-t9 c = search needs
 
-confirm-requires : tie.Need-confirm-requires
-confirm-requires c κs =
-    let a = c .before .before .before .before .before .args in
-    omega (arith, ap length (community-parts (a .msgref .now) (a .status)))
+slice-aggregate-put-reply : tie.Need-slice-aggregate-put-reply
+slice-aggregate-put-reply c = search needs
+
+put-reply-requires : tie.Need-put-reply-requires
+put-reply-requires c κs =
+    let a = c .before .before .before .before .before .before .before .args in
+    omega (arith, ap length (community-parts (a .msgref .now) (a .status) (c .before .before .before .before .contents-size .ensures .0)))
 
 same-length : tie.Need-same-length
 same-length c = search needs
 
 returns : tie.Need-returns
 returns c =
-    let a = c .before .before .before .before .before .before .before .before .args in
-    written-whole (a .buf .now) (community-parts (a .msgref .now) (a .status)) (c .before .before .confirm .ensures)
+    let a = c .before .before .before .before .before .before .before .before .before .before .args in
+    written-whole (a .buf .now) (community-parts (a .msgref .now) (a .status) (c .before .before .before .before .before .before .before .contents-size .ensures .0)) (c .before .before .put-reply .ensures)
 
 pub put-community-confirm-spec : {M : Type 1} → statement M
 put-community-confirm-spec =
     tie.close
-    (tie.spec cast-t5 add-confirm slice-aggregate-confirm confirm-requires same-length returns)
+    (tie.spec
+    contents-size-requires
+    slice-aggregate-none
+    cast-t9
+    slice-aggregate-put-reply
+    put-reply-requires
+    same-length
+    returns)

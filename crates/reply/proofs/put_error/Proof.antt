@@ -1,44 +1,55 @@
 -- `reply::put_error` meets its contract. Assumes nothing.
 use borrow.Author.Needs.{needs}
 use native.Mathlib.Omega.{arith}
-use lib.ListN.{length}
 use mathlib.Core.Path.{ap}
-use Rattle.reply.proofs.Sizes.{written-whole, error-parts, error-size}
+use lib.ListN.{length}
+use Rattle.reply.proofs.Sizes.{written-whole, error-size, error-parts}
 use Rattle.reply.proofs.put_error.Statement.{statement}
 use Rattle.reply.proofs.put_error.Tie as tie
+use Rattle.reply.proofs.put_error.Reads as reads
+use Rattle.reply.proofs.put_error.Lts as lts
+use Rattle.reply.proofs.contents_size.Reads as contents-size-reads
+use Rattle.reply.proofs.put_reply.Reads as put-reply-reads
 
-error-contents-requires : tie.Need-error-contents-requires
-error-contents-requires c κs =
+add-contents-size : tie.Need-add-contents-size
+add-contents-size c = search needs
+
+contents-size-requires : tie.Need-contents-size-requires
+contents-size-requires c κs =
     let a = c .before .before .before .args in
     omega (arith, error-size (a .msgtype .now) (a .msgref .now) (a .status))
 
-cast-t9 : tie.Need-cast-t9
-cast-t9 c = search needs
+slice-aggregate-none : tie.Need-slice-aggregate-none
+slice-aggregate-none c = search needs
 
-slice-aggregate-error : tie.Need-slice-aggregate-error
-slice-aggregate-error c = search needs
+cast-t12 : tie.Need-cast-t12
+cast-t12 c = search needs
 
-error-requires : tie.Need-error-requires
-error-requires c κs =
-    let a = c .before .before .before .before .before .before .before .args in
-    omega (arith, ap length (error-parts (a .msgtype .now) (a .msgref .now) (a .status) _ (c .before .before .before .error-contents .ensures .0)))
+slice-aggregate-put-reply : tie.Need-slice-aggregate-put-reply
+slice-aggregate-put-reply c = search needs
+
+put-reply-requires : tie.Need-put-reply-requires
+put-reply-requires c κs =
+    let a = c .before .before .before .before .before .before .before .before .args in
+    omega (arith, ap length (error-parts (a .msgtype .now) (a .msgref .now) (a .status) (c .before .before .before .before .contents-size .ensures .0)))
 
 same-length : tie.Need-same-length
 same-length c = search needs
 
 returns : tie.Need-returns
 returns c =
-    let a = c .before .before .before .before .before .before .before .before .before .before .args in
-    written-whole (a .buf .now) (error-parts (a .msgtype .now) (a .msgref .now)
-    (a .status) _ (c .before .before .before .before .before .before .error-contents .ensures .0)) (c .before .before .error .ensures)
+    let a = c .before .before .before .before .before .before .before .before .before .before .before .args in
+    written-whole (a .buf .now) (error-parts (a .msgtype .now) (a .msgref .now) (a .status) (c .before .before .before .before .before .before .before .contents-size .ensures .0)) (c .before .before .put-reply .ensures)
 
 pub put-error-spec : {M : Type 1} → statement M
 put-error-spec =
     tie.close
     (tie.spec
-    error-contents-requires
-    cast-t9
-    slice-aggregate-error
-    error-requires
+    add-contents-size
+    contents-size-requires
+    slice-aggregate-none
+    cast-t12
+    slice-aggregate-put-reply
+    put-reply-requires
     same-length
     returns)

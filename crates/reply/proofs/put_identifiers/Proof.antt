@@ -1,92 +1,72 @@
--- `reply::put_identifiers` meets its contract. The loop: the identifiers of the records from place p on are left to be written. Assumes nothing.
+-- `reply::put_identifiers` meets its contract. Assumes nothing.
 use borrow.Author.Needs.{needs}
-use mathlib.Core.Path.{refl, ap, _∙_}
-use lib.ListN.{drop}
-use Rattle.der.specs.Write.{element}
-use Rattle.store.specs.Parts.{identifierIn}
-use Rattle.reply.specs.Parts.{identifierParts, identifiersFrom}
-use Rattle.reply.proofs.Members.{identifiers-start, identifiers-turn, identifiers-end}
-use Rattle.octets.proofs.Turns.{Left, left-start, left-fits, left-step, left-end}
+use native.Mathlib.Omega.{arith}
+use Rattle.reply.proofs.Sizes.{length-list}
+use Rattle.reply.proofs.Members.{identifiers-none, identifiers-some}
+use Rattle.octets.proofs.Turns.{nothing-written}
+use Rattle.reply.proofs.TwoParts.{header-fits, members-fit, list-written}
 use Rattle.reply.proofs.put_identifiers.Statement.{statement}
 use Rattle.reply.proofs.put_identifiers.Tie as tie
+use Rattle.reply.proofs.put_identifiers.Reads as reads
+use Rattle.reply.proofs.put_identifiers.Lts as lts
+use Rattle.der.proofs.put_header.Reads as put-header-reads
+use Rattle.reply.proofs.key_identifiers_size.Reads as key-identifiers-size-reads
+use Rattle.reply.proofs.put_key_identifiers.Reads as put-key-identifiers-reads
+use Rattle.store.proofs.anchor_count.Reads as anchor-count-reads
+use Rattle.store.proofs.first_record.Reads as first-record-reads
 
-abbrev Inv-loop : tie.InvT-loop
-Inv-loop buf₀ at image q₀ p₀ left₀ buf q p left = Left buf₀ at (identifierParts image) buf q (identifiersFrom left (drop p image))
-
-abbrev μ-loop : tie.MeasureT-loop
-μ-loop buf₀ at image q₀ p₀ left₀ buf q p left = left
-
-first-record-requires : tie.Need-first-record-requires Inv-loop μ-loop
-first-record-requires c κs = search needs
-
-anchor-count-requires : tie.Need-anchor-count-requires Inv-loop μ-loop
+anchor-count-requires : tie.Need-anchor-count-requires
 anchor-count-requires c κs = search needs
 
-loop-holds : tie.Need-loop-holds Inv-loop μ-loop
-loop-holds c =
-    let a = c .before .before .before .before .args in
-    rw (c .anchor-count .ensures, c .before .first-record .ensures, ← identifiers-start (a .image .now)) (left-start (a .buf .now) (a .at)
-    (identifierParts (a .image .now)))
-
-record-at-requires : tie.Need-record-at-requires Inv-loop μ-loop
-record-at-requires c κs = search needs
-
-identifier-of-requires : tie.Need-identifier-of-requires Inv-loop μ-loop
-identifier-of-requires c κs = search needs
-
-put-element-requires : tie.Need-put-element-requires Inv-loop μ-loop
-put-element-requires c κs =
-    let a = c .before .before .before .before .before .before .before .before .before .args in
-    let l = c .before .before .before .before .loop in
-    let x = c .identifier-of .ensures ∙ ap identifierIn (c .before .record-at .ensures) in
-    let e = identifiers-turn (a .image .now) (l .p) (l .left) (c .before .before .before .loop-test .taken) x refl in
-    left-fits (a .buf .now) (a .at) _ (c .before .before .before .before .before .before .before .before .before .pre) (l .inv)
-    (element 0x04 (c .identifier-of .result .now)) _ e
-
-record-end-requires : tie.Need-record-end-requires Inv-loop μ-loop
-record-end-requires c κs = search needs
-
-sub-left : tie.Need-sub-left Inv-loop μ-loop
-sub-left c = search needs
-
-loop-less : tie.Need-loop-less Inv-loop μ-loop
-loop-less c = search needs
-
-loop-again : tie.Need-loop-again Inv-loop μ-loop
-loop-again c =
-    let a = c .before .before .before .before .before .before .before .before .before .before .before .before .before .args in
-    let l = c .before .before .before .before .before .before .before .before .loop in
-    let i = c .before .before .before .before .identifier-of in
-    let x = i .ensures ∙ ap identifierIn (c .before .before .before .before .before .record-at .ensures) in
-    let e = identifiers-turn (a .image .now) (l .p) (l .left)
-    (c .before .before .before .before .before .before .before .loop-test .taken) x (c .record-end .ensures) in
-    left-step (a .buf .now) (a .at) _ (c .before .before .before .before .before .before .before .before .before .before .before .before .before .pre)
-    (l .inv) (element 0x04 (i .result .now)) _ e (c .before .before .before .put-element .ensures)
-
-same-length : tie.Need-same-length Inv-loop μ-loop
-same-length c = c .before .loop .inv .size
-
-returns : tie.Need-returns Inv-loop μ-loop
+returns : tie.Need-returns
 returns c =
-    let a = c .before .before .before .before .before .before .args in
-    let l = c .before .loop in
-    left-end (a .buf .now) (a .at) _ (l .buf) (l .q) (rw (identifiers-end (drop (l .p) (a .image .now)) (l .left) (c .loop-test .left)) at (l .inv))
+    let a = c .before .before .before .before .args in
+    nothing-written (a .buf .now) (a .at) (identifiers-none (a .image .now) (c .before .anchor-count .ensures) (c .if1 .taken))
+
+first-record-requires : tie.Need-first-record-requires
+first-record-requires c κs = search needs
+
+key-identifiers-size-requires : tie.Need-key-identifiers-size-requires
+key-identifiers-size-requires c κs =
+    omega (
+      arith,
+      length-list (identifiers-some (c .before .before .before .before .before .before .args .image .now) (c .before .before .before .anchor-count .ensures) (c .before .before .if1 .left)
+          (c .before .first-record .ensures)),
+    )
+
+put-header-requires : tie.Need-put-header-requires
+put-header-requires c κs =
+    let a = c .before .before .before .before .before .before .before .args in
+    header-fits (a .buf .now) (a .at) (c .before .before .before .before .before .before .before .pre) (identifiers-some (a .image .now) (c .before .before .before .before .anchor-count .ensures) (c .before .before .before .if1 .left)
+    (c .before .before .first-record .ensures)) (c .key-identifiers-size .ensures)
+
+put-key-identifiers-requires : tie.Need-put-key-identifiers-requires
+put-key-identifiers-requires c κs =
+    let a = c .before .before .before .before .before .before .before .before .before .before .before .args in
+    members-fit (a .buf .now) (a .at) (c .before .before .before .before .before .before .before .before .before .before .before .pre) (identifiers-some (a .image .now) (c .before .before .before .before .before .before .before .before .anchor-count .ensures)
+    (c .before .before .before .before .before .before .before .if1 .left) (c .before .before .before .before .before .before .first-record .ensures)) (c .before .before .before .before .key-identifiers-size .ensures)
+    (c .before .before .before .put-header .ensures)
+
+same-length : tie.Need-same-length
+same-length c = search needs
+
+returns-2 : tie.Need-returns-2
+returns-2 c =
+    let a = c .before .before .before .before .before .before .before .before .before .before .before .before .before .before .args in
+    list-written (a .buf .now) (a .at) (c .before .before .before .before .before .before .before .before .before .before .before .before .before .before .pre)
+    (identifiers-some (a .image .now) (c .before .before .before .before .before .before .before .before .before .before .before .anchor-count .ensures)
+    (c .before .before .before .before .before .before .before .before .before .before .if1 .left) (c .before .before .before .before .before .before .before .before .before .first-record .ensures))
+    (c .before .before .before .before .before .before .before .key-identifiers-size .ensures) (c .before .before .before .before .before .before .put-header .ensures) (c .before .before .put-key-identifiers .ensures)
 
 pub put-identifiers-spec : {M : Type 1} → statement M
 put-identifiers-spec =
     tie.close
     (tie.spec
-    Inv-loop
-    μ-loop
-    first-record-requires
     anchor-count-requires
-    loop-holds
-    record-at-requires
-    identifier-of-requires
-    put-element-requires
-    record-end-requires
-    sub-left
-    loop-less
-    loop-again
+    returns
+    first-record-requires
+    key-identifiers-size-requires
+    put-header-requires
+    put-key-identifiers-requires
     same-length
-    returns)
+    returns-2)

@@ -3,30 +3,53 @@ use borrow.Author.Needs.{needs}
 use native.Mathlib.Omega.{arith}
 use mathlib.Core.Path.{ap}
 use lib.ListN.{length}
-use Rattle.reply.proofs.Sizes.{written-whole}
-use Rattle.reply.proofs.Answer.{response-size, response-parts}
+use Rattle.reply.proofs.Sizes.{written-whole, response-size, response-parts}
 use Rattle.reply.proofs.put_status_response.Statement.{statement}
 use Rattle.reply.proofs.put_status_response.Tie as tie
+use Rattle.reply.proofs.put_status_response.Reads as reads
+use Rattle.reply.proofs.put_status_response.Lts as lts
+use Rattle.reply.proofs.contents_size.Reads as contents-size-reads
+use Rattle.reply.proofs.put_reply.Reads as put-reply-reads
+use Rattle.reply.proofs.terse_size.Reads as terse-size-reads
 
-response-sizes-requires : tie.Need-response-sizes-requires
-response-sizes-requires c κs =
+terse-size-requires : tie.Need-terse-size-requires
+terse-size-requires c κs =
     let a = c .before .before .before .args in
     omega (arith, response-size (a .msgref .now) (a .image .now))
 
-response-requires : tie.Need-response-requires
-response-requires c κs =
-    let a = c .before .before .before .before .before .args in
-    omega (arith, ap length (response-parts (a .msgref .now) (a .image .now) (c .before .response-sizes .ensures)))
+contents-size-requires : tie.Need-contents-size-requires
+contents-size-requires c κs =
+    let a = c .before .before .before .before .args in
+    omega (arith, c .terse-size .ensures, response-size (a .msgref .now) (a .image .now))
+
+slice-aggregate-none : tie.Need-slice-aggregate-none
+slice-aggregate-none c = search needs
+
+put-reply-requires : tie.Need-put-reply-requires
+put-reply-requires c κs =
+    let a = c .before .before .before .before .before .before .before .args in
+    omega (
+      arith,
+      ap length (response-parts (a .msgref .now) (a .image .now) (c .before .before .before .terse-size .ensures)
+          (c .before .before .contents-size .ensures .0)),
+    )
 
 same-length : tie.Need-same-length
 same-length c = search needs
 
 returns : tie.Need-returns
 returns c =
-    let a = c .before .before .before .before .before .before .before .before .args in
-    written-whole (a .buf .now) (response-parts (a .msgref .now) (a .image .now) (c .before .before .before .before .response-sizes .ensures))
-    (c .before .before .response .ensures)
+    let a = c .before .before .before .before .before .before .before .before .before .before .args in
+    written-whole (a .buf .now) (response-parts (a .msgref .now) (a .image .now) (c .before .before .before .before .before .before .terse-size .ensures)
+    (c .before .before .before .before .before .contents-size .ensures .0)) (c .before .before .put-reply .ensures)
 
 pub put-status-response-spec : {M : Type 1} → statement M
 put-status-response-spec =
-    tie.close (tie.spec response-sizes-requires response-requires same-length returns)
+    tie.close
+    (tie.spec
+    terse-size-requires
+    contents-size-requires
+    slice-aggregate-none
+    put-reply-requires
+    same-length
+    returns)

@@ -1,34 +1,46 @@
 -- `reply::response_size` meets its contract. Assumes nothing.
 use native.Mathlib.Omega.{arith}
 use mathlib.Core.Path.{sym, ap, _∙_}
-use Rattle.reply.specs.declared.ResponseSizes.{ResponseSizes}
-use Rattle.reply.specs.Parts.{elementSize}
 use lib.ListN.{length}
-use Rattle.reply.proofs.Answer.{response-size, response-small}
+use Rattle.reply.specs.Parts.{elementSize, contentsSize}
+use Rattle.reply.proofs.Sizes.{response-size}
+use Rattle.reply.proofs.Members.{terse-small}
 use Rattle.reply.proofs.response_size.Statement.{statement}
 use Rattle.reply.proofs.response_size.Tie as tie
+use Rattle.reply.proofs.response_size.Reads as reads
+use Rattle.reply.proofs.response_size.Lts as lts
+use Rattle.reply.proofs.contents_size.Reads as contents-size-reads
+use Rattle.reply.proofs.element_size.Reads as element-size-reads
+use Rattle.reply.proofs.terse_size.Reads as terse-size-reads
 
-response-sizes-requires : tie.Need-response-sizes-requires
-response-sizes-requires c κs =
-    let a = c .before .before .args in
-    omega (arith, response-small (length (a .msgref .now)) (a .image .now) (λ i. c .shared-slice-known2 .given i .fits) (omega arith) (omega arith))
+terse-size-requires : tie.Need-terse-size-requires
+terse-size-requires c κs =
+    omega (arith, terse-small (c .before .before .args .image .now) (λ i. c .shared-slice-known2 .given i .fits) (omega arith))
+
+contents-size-requires : tie.Need-contents-size-requires
+contents-size-requires c κs =
+    omega (
+      arith,
+      c .terse-size .ensures,
+      terse-small (c .before .before .before .args .image .now) (λ i. c .before .shared-slice-known2 .given i .fits) (omega arith),
+    )
 
 element-size-requires : tie.Need-element-size-requires
 element-size-requires c κs =
-    let a = c .before .before .before .args in
-    let e = ap (λ (r : ResponseSizes). r .contents) (c .response-sizes .ensures) in
     omega (
       arith,
-      e,
-      response-small (length (a .msgref .now)) (a .image .now) (λ i. c .before .shared-slice-known2 .given i .fits) (omega arith)
-          (omega arith),
+      c .contents-size .ensures .1,
+      c .before .terse-size .ensures,
+      terse-small (c .before .before .before .before .args .image .now) (λ i. c .before .before .shared-slice-known2 .given i .fits) (omega arith),
     )
 
 returns : tie.Need-returns
 returns c =
-    let a = c .before .before .before .before .args in
-    let e = ap (λ (r : ResponseSizes). r .contents) (c .before .response-sizes .ensures) in
-    c .element-size .ensures .0 ∙ ap elementSize e ∙ sym (response-size (a .msgref .now) (a .image .now))
+    let a = c .before .before .before .before .before .args in
+    c .element-size .ensures .0
+    ∙ ap elementSize (c .before .contents-size .ensures .0 ∙ ap (λ n. contentsSize (length (a .msgref .now)) n 0) (c .before .before .terse-size .ensures))
+    ∙ sym (response-size (a .msgref .now) (a .image .now))
 
 pub response-size-spec : {M : Type 1} → statement M
-response-size-spec = tie.close (tie.spec response-sizes-requires element-size-requires returns)
+response-size-spec =
+    tie.close (tie.spec terse-size-requires contents-size-requires element-size-requires returns)

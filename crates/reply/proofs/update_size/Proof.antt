@@ -1,24 +1,34 @@
 -- `reply::update_size` meets its contract. Assumes nothing.
-use mathlib.Core.Path.{sym, ap, _∙_}
-use lib.ListN.{length}
-use Rattle.reply.specs.Parts.{elementSize, updateContents}
-use Rattle.reply.proofs.Sizes.{updates-size}
 use borrow.Author.Needs.{needs}
+use Prim.Native.Nat.{_*_}
+use lib.ListN.{length}
+use mathlib.Core.Path.{sym, ap, _∙_}
+use Rattle.reply.specs.Parts.{elementSize, contentsSize}
+use Rattle.reply.proofs.Sizes.{updates-size}
 use Rattle.reply.proofs.update_size.Statement.{statement}
 use Rattle.reply.proofs.update_size.Tie as tie
+use Rattle.reply.proofs.update_size.Reads as reads
+use Rattle.reply.proofs.update_size.Lts as lts
+use Rattle.reply.proofs.contents_size.Reads as contents-size-reads
+use Rattle.reply.proofs.element_size.Reads as element-size-reads
 
-update-contents-requires : tie.Need-update-contents-requires
-update-contents-requires c κs = search needs
+mul-contents-size : tie.Need-mul-contents-size
+mul-contents-size c = search needs
+
+contents-size-requires : tie.Need-contents-size-requires
+contents-size-requires c κs = search needs
 
 element-size-requires : tie.Need-element-size-requires
 element-size-requires c κs = search needs
 
 returns : tie.Need-returns
-returns c = λ l e.
+returns c =
+    λ l e.
     let a = c .before .before .before .args in
     c .element-size .ensures .0
-    ∙ ap elementSize (c .before .update-contents .ensures .0 ∙ ap (updateContents (length (a .msgref .now))) (sym e))
+    ∙ ap elementSize (c .before .contents-size .ensures .0 ∙ ap (λ n. contentsSize (length (a .msgref .now)) (3 * n) 0) (sym e))
     ∙ sym (updates-size (a .msgref .now) l)
 
 pub update-size-spec : {M : Type 1} → statement M
-update-size-spec = tie.close (tie.spec update-contents-requires element-size-requires returns)
+update-size-spec =
+    tie.close (tie.spec mul-contents-size contents-size-requires element-size-requires returns)
