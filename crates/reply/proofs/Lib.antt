@@ -1,5 +1,6 @@
 pub mod Again
 pub mod Held
+pub mod Lent
 pub mod Codes
 pub mod Calls
 pub mod Sizes

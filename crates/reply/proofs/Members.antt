@@ -9,8 +9,8 @@ use lib.Dec.{eqb}
 use borrow.Author.Tests.{eqb-true, eqb-false}
 use Rattle.octets.specs.Octets.{Octets, part}
 use Rattle.octets.proofs.Lists.{by-test}
-use Rattle.der.specs.Write.{header, element}
-use Rattle.store.specs.Records.{recordsFrom, recordsOf}
+use Rattle.der.specs.Write.{element}
+use Rattle.store.specs.Records.{recordsFrom}
 use Rattle.anchor.specs.Info.{keyIdField}
 use Rattle.store.specs.Parts.{anchorPlace, anchorCount, firstRecord, recordEnd, recordAt, infoIn, identifierIn, nameEnd, nameAt, namesFrom, communityPlace}
 use Rattle.store.specs.Parts.{communityCount, communityOctets, communitiesOf}

@@ -1,6 +1,5 @@
 -- The replies to the last octet: the terse forms of RFC 5934, appendix A.1, with the defaults (version, usesApex) left out. msgRef is the octets of the message's own.
 use Prim.Native.Nat.{ℕ}
-use mathlib.Core.Bool.{Bool, true, false}
 use mathlib.Core.List.{List, [], _∷_, _++_, flatMap}
 use Rattle.octets.specs.declared.Status.{Status}
 use Rattle.octets.specs.Status.{success}

@@ -5,10 +5,6 @@ use Rattle.reply.specs.Parts.{elementSize}
 use Rattle.reply.proofs.Sizes.{community-size, adjust-size}
 use Rattle.reply.proofs.confirm_size.Statement.{statement}
 use Rattle.reply.proofs.confirm_size.Tie as tie
-use Rattle.reply.proofs.confirm_size.Reads as reads
-use Rattle.reply.proofs.confirm_size.Lts as lts
-use Rattle.reply.proofs.contents_size.Reads as contents-size-reads
-use Rattle.reply.proofs.element_size.Reads as element-size-reads
 
 contents-size-requires : tie.Need-contents-size-requires
 contents-size-requires c κs = search needs

@@ -5,10 +5,6 @@ use Rattle.reply.specs.Parts.{elementSize}
 use Rattle.reply.proofs.Sizes.{error-size}
 use Rattle.reply.proofs.error_size.Statement.{statement}
 use Rattle.reply.proofs.error_size.Tie as tie
-use Rattle.reply.proofs.error_size.Reads as reads
-use Rattle.reply.proofs.error_size.Lts as lts
-use Rattle.reply.proofs.contents_size.Reads as contents-size-reads
-use Rattle.reply.proofs.element_size.Reads as element-size-reads
 
 add-contents-size : tie.Need-add-contents-size
 add-contents-size c = search needs

@@ -8,12 +8,6 @@ use Rattle.reply.proofs.Members.{identifiers-none, identifiers-some}
 use Rattle.reply.proofs.Sizes.{length-list}
 use Rattle.reply.proofs.identifiers_size.Statement.{statement}
 use Rattle.reply.proofs.identifiers_size.Tie as tie
-use Rattle.reply.proofs.identifiers_size.Reads as reads
-use Rattle.reply.proofs.identifiers_size.Lts as lts
-use Rattle.reply.proofs.element_size.Reads as element-size-reads
-use Rattle.reply.proofs.key_identifiers_size.Reads as key-identifiers-size-reads
-use Rattle.store.proofs.anchor_count.Reads as anchor-count-reads
-use Rattle.store.proofs.first_record.Reads as first-record-reads
 
 anchor-count-requires : tie.Need-anchor-count-requires
 anchor-count-requires c κs = search needs

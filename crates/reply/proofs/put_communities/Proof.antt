@@ -7,13 +7,6 @@ use Rattle.octets.proofs.Turns.{nothing-written}
 use Rattle.reply.proofs.TwoParts.{header-fits, members-fit, list-written}
 use Rattle.reply.proofs.put_communities.Statement.{statement}
 use Rattle.reply.proofs.put_communities.Tie as tie
-use Rattle.reply.proofs.put_communities.Reads as reads
-use Rattle.reply.proofs.put_communities.Lts as lts
-use Rattle.der.proofs.put_header.Reads as put-header-reads
-use Rattle.reply.proofs.names_size.Reads as names-size-reads
-use Rattle.reply.proofs.put_names.Reads as put-names-reads
-use Rattle.store.proofs.community_count.Reads as community-count-reads
-use Rattle.store.proofs.community_octets.Reads as community-octets-reads
 
 community-count-requires : tie.Need-community-count-requires
 community-count-requires c κs = search needs

@@ -6,10 +6,6 @@ use lib.ListN.{length}
 use Rattle.reply.proofs.Sizes.{written-whole, community-size, community-parts}
 use Rattle.reply.proofs.put_community_confirm.Statement.{statement}
 use Rattle.reply.proofs.put_community_confirm.Tie as tie
-use Rattle.reply.proofs.put_community_confirm.Reads as reads
-use Rattle.reply.proofs.put_community_confirm.Lts as lts
-use Rattle.reply.proofs.contents_size.Reads as contents-size-reads
-use Rattle.reply.proofs.put_reply.Reads as put-reply-reads
 
 contents-size-requires : tie.Need-contents-size-requires
 contents-size-requires c κs =

@@ -6,10 +6,6 @@ use lib.ListN.{length}
 use Rattle.reply.proofs.Sizes.{written-whole, error-size, error-parts}
 use Rattle.reply.proofs.put_error.Statement.{statement}
 use Rattle.reply.proofs.put_error.Tie as tie
-use Rattle.reply.proofs.put_error.Reads as reads
-use Rattle.reply.proofs.put_error.Lts as lts
-use Rattle.reply.proofs.contents_size.Reads as contents-size-reads
-use Rattle.reply.proofs.put_reply.Reads as put-reply-reads
 
 add-contents-size : tie.Need-add-contents-size
 add-contents-size c = search needs

@@ -7,13 +7,6 @@ use Rattle.octets.proofs.Turns.{nothing-written}
 use Rattle.reply.proofs.TwoParts.{header-fits, members-fit, list-written}
 use Rattle.reply.proofs.put_identifiers.Statement.{statement}
 use Rattle.reply.proofs.put_identifiers.Tie as tie
-use Rattle.reply.proofs.put_identifiers.Reads as reads
-use Rattle.reply.proofs.put_identifiers.Lts as lts
-use Rattle.der.proofs.put_header.Reads as put-header-reads
-use Rattle.reply.proofs.key_identifiers_size.Reads as key-identifiers-size-reads
-use Rattle.reply.proofs.put_key_identifiers.Reads as put-key-identifiers-reads
-use Rattle.store.proofs.anchor_count.Reads as anchor-count-reads
-use Rattle.store.proofs.first_record.Reads as first-record-reads
 
 anchor-count-requires : tie.Need-anchor-count-requires
 anchor-count-requires c κs = search needs

@@ -12,7 +12,7 @@ use base.Logic.{SProp, ent}
 use base.Fml.{Lft, Share}
 use prog.Memory.{Memory}
 use prog.Routine.{Routine}
-use prog.Wp.{Heap, Calls, Loops, WpFn, Tables}
+use prog.Wp.{Heap, Calls, Loops, WpFn}
 use ghost.Atoms.{Atoms}
 use contract.Monad.{Fun}
 use contract.Running.{givenOf, tables, tablesOf}
@@ -29,7 +29,7 @@ use denote.Ref.{RefT}
 use denote.Slice.{MutSlice, ShrSlice, Room, finally, slice-vals, mut-slice-tells, shr-slice-tells, shr-slice-lawful}
 use denote.Steps.{owned, nothing}
 use denote.Triple.Entry.{onEntry}
-use denote.Triple.Spec.{Meets, tripleOf}
+use denote.Triple.Spec.{tripleOf}
 use denote.Triple.Statement.{Triple}
 use denote.Triple.Table.{entered, cited}
 use denote.Triple.Walked.{needs, says, Stays, stay-none, stay-none-slice, gave-slice, walkOf, goes-none, goes-none-slice, goes-gave-slice, Walks, ends-at}
@@ -37,13 +37,13 @@ use denote.Triple.Walked.{walked, walk-meets}
 use denote.Exit.{yes}
 use denote.Signature.{plain}
 use Rattle.der.specs.Write.{header as headerOf}
-use Rattle.octets.specs.Octets.{placed}
 use Rattle.reply.specs.declared.Writer.{Writer}
 use Rattle.reply.specs.Parts.{statusCodes, identifierParts, communityParts, replyParts}
 use Rattle.reply.proofs.Calls as calls
 use Rattle.reply.proofs.Calls.{machine, New, Finish, SliceStep, Header}
 use Rattle.reply.proofs.Chain as chain
-use Rattle.reply.proofs.Chain.{Going, going-start, going-done, freed}
+use Rattle.reply.proofs.Lent.{freed}
+use Rattle.reply.proofs.Chain.{Going, going-start, going-done}
 use Rattle.reply.proofs.new.Symbol as new-def
 use Rattle.reply.proofs.new.Symbol.{name as #new}
 use Rattle.reply.proofs.new.Met as new-thm
@@ -183,7 +183,7 @@ module _ {M : Type 1} (𝓤 : URA M) (H : Heap 𝓤) (A : Atoms 𝓤) (W : Given
         land ! (from ! (stop !)) (init ! 29 refl t8) $ assigns ! (of-opd ! (load ! (from ! (stop !)) (look ! 29 refl))) (from ! (stop !)) (init ! 7 refl t8) $
         chain.finish-step 𝓤 H A W mem run κ κ′ q q′ ! fm known-finish (and-then ! (load ! (from ! (stop !)) (look ! 7 refl)) (no-more !)) (λ v is.
         land ! (from ! (stop !)) (init ! 66 refl (uint-lawful 𝓤 H A W w64 .typed _ _ is .0)) $ returns ! (look ! 66 refl) $
-        freed ! 66 refl refl $ freed ! 64 refl refl $ freed ! 62 refl refl $ freed ! 60 refl refl $ freed ! 58 refl refl $ freed ! 56 refl refl $ freed ! 54 refl refl $ freed ! 52 refl refl $ freed ! 50 refl refl $ freed ! 48 refl refl $ freed ! 46 refl refl $ freed ! 44 refl refl $ freed ! 42 refl refl $ freed ! 40 refl refl $ freed ! 38 refl refl $ freed ! 36 refl refl $ freed ! 34 refl refl $ freed ! 32 refl refl $ freed ! 30 refl refl $ freed ! 28 refl refl $ freed ! 26 refl refl $ freed ! 24 refl refl $ freed ! 22 refl refl $ freed ! 20 refl refl $ freed ! 18 refl refl $ freed ! 16 refl refl $ freed ! 14 refl refl $ freed ! 12 refl refl $ freed ! 10 refl refl $ freed ! 8 refl refl $ free0 ! $
+        freed ! 66 66 refl refl $ freed ! 64 64 refl refl $ freed ! 62 62 refl refl $ freed ! 60 60 refl refl $ freed ! 58 58 refl refl $ freed ! 56 56 refl refl $ freed ! 54 54 refl refl $ freed ! 52 52 refl refl $ freed ! 50 50 refl refl $ freed ! 48 48 refl refl $ freed ! 46 46 refl refl $ freed ! 44 44 refl refl $ freed ! 42 42 refl refl $ freed ! 40 40 refl refl $ freed ! 38 38 refl refl $ freed ! 36 36 refl refl $ freed ! 34 34 refl refl $ freed ! 32 32 refl refl $ freed ! 30 30 refl refl $ freed ! 28 28 refl refl $ freed ! 26 26 refl refl $ freed ! 24 24 refl refl $ freed ! 22 22 refl refl $ freed ! 20 20 refl refl $ freed ! 18 18 refl refl $ freed ! 16 16 refl refl $ freed ! 14 14 refl refl $ freed ! 12 12 refl refl $ freed ! 10 10 refl refl $ freed ! 8 8 refl refl $ free0 ! $
         move ! (0 ∷ 1 ∷ 2 ∷ 3 ∷ 4 ∷ 5 ∷ 6 ∷ 7 ∷ []) $ by ! (exits v g8)))))))))))))))))))))))))))))))))))))))))
 
 module _ {M : Type 1} (𝓤 : URA M) (H : Heap 𝓤) (A : Atoms 𝓤) (W : Given 𝓤 H A) (mem : Memory → SProp 𝓤) (run : Routine → Fun 𝓤) where

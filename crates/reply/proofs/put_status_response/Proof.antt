@@ -6,11 +6,6 @@ use lib.ListN.{length}
 use Rattle.reply.proofs.Sizes.{written-whole, response-size, response-parts}
 use Rattle.reply.proofs.put_status_response.Statement.{statement}
 use Rattle.reply.proofs.put_status_response.Tie as tie
-use Rattle.reply.proofs.put_status_response.Reads as reads
-use Rattle.reply.proofs.put_status_response.Lts as lts
-use Rattle.reply.proofs.contents_size.Reads as contents-size-reads
-use Rattle.reply.proofs.put_reply.Reads as put-reply-reads
-use Rattle.reply.proofs.terse_size.Reads as terse-size-reads
 
 terse-size-requires : tie.Need-terse-size-requires
 terse-size-requires c κs =

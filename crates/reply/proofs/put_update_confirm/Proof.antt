@@ -6,10 +6,6 @@ use lib.ListN.{length}
 use Rattle.reply.proofs.Sizes.{written-whole, update-size, update-parts}
 use Rattle.reply.proofs.put_update_confirm.Statement.{statement}
 use Rattle.reply.proofs.put_update_confirm.Tie as tie
-use Rattle.reply.proofs.put_update_confirm.Reads as reads
-use Rattle.reply.proofs.put_update_confirm.Lts as lts
-use Rattle.reply.proofs.contents_size.Reads as contents-size-reads
-use Rattle.reply.proofs.put_reply.Reads as put-reply-reads
 
 mul-m : tie.Need-mul-m
 mul-m c =

@@ -7,11 +7,6 @@ use Rattle.reply.proofs.Sizes.{response-size}
 use Rattle.reply.proofs.Members.{terse-small}
 use Rattle.reply.proofs.response_size.Statement.{statement}
 use Rattle.reply.proofs.response_size.Tie as tie
-use Rattle.reply.proofs.response_size.Reads as reads
-use Rattle.reply.proofs.response_size.Lts as lts
-use Rattle.reply.proofs.contents_size.Reads as contents-size-reads
-use Rattle.reply.proofs.element_size.Reads as element-size-reads
-use Rattle.reply.proofs.terse_size.Reads as terse-size-reads
 
 terse-size-requires : tie.Need-terse-size-requires
 terse-size-requires c κs =

@@ -7,10 +7,6 @@ use Rattle.reply.specs.Parts.{elementSize, contentsSize}
 use Rattle.reply.proofs.Sizes.{updates-size}
 use Rattle.reply.proofs.update_size.Statement.{statement}
 use Rattle.reply.proofs.update_size.Tie as tie
-use Rattle.reply.proofs.update_size.Reads as reads
-use Rattle.reply.proofs.update_size.Lts as lts
-use Rattle.reply.proofs.contents_size.Reads as contents-size-reads
-use Rattle.reply.proofs.element_size.Reads as element-size-reads
 
 mul-contents-size : tie.Need-mul-contents-size
 mul-contents-size c = search needs
