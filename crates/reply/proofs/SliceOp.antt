@@ -46,7 +46,7 @@ use Rattle.reply.proofs.Writer as T
 use Rattle.reply.proofs.Writer.Laws as T′
 use Rattle.reply.proofs.Held.{writer-spent, writer-spent-goes}
 use Rattle.reply.proofs.Lent as lent
-use Rattle.reply.proofs.Lent.{lent, lends, mach, lends-step, freed}
+use Rattle.reply.proofs.Lent.{lent, lends, mach, lends-step, held-in, freed}
 use mir.Syntax.{Name, Local, Fn, local, valueLocal, tyRef, imm, place, field, copy, rvOpd, aggregate, assign, call, seq}
 use mir.Syntax.{return}
 use denote.Slice.{sliceTy}
@@ -192,8 +192,7 @@ module _ (k : Name) (f : List ℕ
         move ! (3 ∷ []) $ split ! $ move ! (5 ∷ []) $ fsplit ! $
         use1 W (Read ⊛ Read) (shr-slice-copy 𝓤 H A W (named 1) κ′ u8 .twice t1 (m1 ∷ [])) $ split ! $ move ! (3 ∷ 0 ∷ []) $ join ! $
         move ! (4 ∷ 5 ∷ 0 ∷ []) $ use3 W (raw (Callee f 𝓤 H A .pre (to ν δ))) (goes ν δ within) $
-        calls-at ! fm (Callee f 𝓤 H A) known (to ν δ) (and-then ! (load ! (from ! (stop !)) (look ! 7 refl)) (and-then ! (load ! (from ! (stop !))
-        (look ! 16 refl)) (and-then ! (load ! (from ! (stop !)) (look ! 18 refl)) (no-more !)))) (λ w.
+        calls-at ! fm (Callee f 𝓤 H A) known (to ν δ) (and-then ! (held-in ! 7 refl) (and-then ! (held-in ! 16 refl) (and-then ! (held-in ! 18 refl) (no-more !)))) (λ w.
         use1 W (later (some (λ (r : ℕ). ((‵ (flft (ν ∷ []) fullShare) ⊛ Token ⊛ ‵ ftrue) ⊛ ‵ (usize .own r (w
         ∷ []))) ⊛ raw (ensured 𝓤 H A callee.ended (Work f 𝓤) (ν ∷ [], (κ′, tt)) (args δ) tt r)))) (id⊢ 𝓤 _) $ await ! tt $ pick ! (λ r.
         split ! $ move ! (1 ∷ []) $
@@ -204,7 +203,7 @@ module _ (k : Name) (f : List ℕ
         rewrite ! 17 (λ (u : Val). ‵ (fat fullShare (tyInt w64) l4 0 u)) (ap only (is .0)) refl $
         move ! (1 ∷ []) $ split ! $ move ! (0 ∷ 8 ∷ 3 ∷ []) $ lent.came-back 𝓤 H A W κ q b o γ ys n ! tt (zs .0) room l $
         move ! (8 ∷ 13 ∷ 11 ∷ []) $ lends-step ! room refl refl $
-        assigns ! (agg ! (and-then ! (load ! (from ! (stop !)) (look ! 2 refl)) (and-then ! (load ! (from ! (stop !)) (look ! 17 refl)) (no-more !))))
+        assigns ! (agg ! (and-then ! (held-in ! 2 refl) (and-then ! (held-in ! 17 refl) (no-more !))))
         (from ! (stop !)) (init ! 24 refl (tt, ((tt, (record { fits = room .0 }, tt)), (record { fits = is .1 }, tt)))) $ returns ! (look ! 24 refl) $
         freed ! 24 24 refl refl $ freed ! 0 22 refl refl $ freed ! 20 20 refl refl $ freed ! 18 18 refl refl $ freed ! 16 16 refl refl $
         freed ! 10 14 refl refl $ freed ! 10 12 refl refl $ freed ! 0 10 refl refl $ freed ! 0 8 refl refl $ free0 ! $

@@ -1,5 +1,5 @@
 -- The replies once more, part by part in the order in which they are written, each header by the number of octets behind it; and their sizes.
--- proofs/Sizes and proofs/Answer tie both to Replies.
+-- proofs/Sizes ties both to Replies.
 use Prim.Native.Nat.{ℕ, _+_}
 use mathlib.Core.List.{List, [], _∷_, _++_, map, flatMap}
 use lib.ListN.{length}
