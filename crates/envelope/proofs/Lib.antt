@@ -1,4 +1,5 @@
-pub mod Given
+pub mod OneRow
+pub mod Chain
 pub mod Runs
 pub mod Attributes
 pub mod Answers

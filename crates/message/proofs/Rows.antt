@@ -19,7 +19,7 @@ use Rattle.envelope.specs.declared.Signed.{Signed}
 use Rattle.envelope.specs.declared.Refusal.{Refusal}
 use Rattle.envelope.specs.declared.Envelope.the-variants as envelope
 use Rattle.envelope.specs.Rows.{envelope}
-use Rattle.envelope.proofs.Given.{at-fits, at-breaks, if-passes, if-applies}
+use Rattle.envelope.proofs.OneRow.{at-fits, at-breaks, if-passes, if-applies}
 use Rattle.message.specs.declared.Received.{Received}
 use Rattle.message.specs.declared.Received.the-variants.{Asks, Refused}
 use Rattle.message.specs.Fields.{bodyIn, msgRefIn, versionIn, terseIn}
