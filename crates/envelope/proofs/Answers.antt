@@ -18,7 +18,6 @@ use Rattle.syntax.specs.Asn.{ContentInfo}
 use Rattle.syntax.specs.Types.{recognised}
 use Rattle.syntax.specs.declared.Form.the-variants as form
 use Rattle.syntax.specs.Forms.{formSyntax}
-use Rattle.envelope.specs.declared.Envelope.{Envelope}
 use Rattle.envelope.specs.declared.Envelope.the-variants.{Opened}
 use Rattle.envelope.specs.Parts.{contentInfo, contentType, content, signedData, encapContentInfo, certificates, crls, signerInfos, eContentType, eContentTag, eContent}
 use Rattle.envelope.specs.Parts.{signerInfo, subjectKeyIdentifier, signedAttrs, unsignedAttrs}

@@ -1,5 +1,4 @@
 -- 01, Answers: "The first that applies is given": one more row behind those so far (specs/Given), as a row of the table.
-use Prim.Native.Nat.{ℕ}
 use mathlib.Core.Bool.{Bool, true, false, not}
 use mathlib.Core.Path.{_≡_, refl}
 use Rattle.octets.specs.declared.Status.{Status}
@@ -16,7 +15,7 @@ use Rattle.envelope.specs.declared.Given.{Given}
 use Rattle.envelope.specs.declared.Given.the-variants.{Nothing, First}
 use Rattle.envelope.specs.declared.Envelope.{Envelope}
 use Rattle.envelope.specs.declared.Envelope.the-variants.{Refused}
-use Rattle.envelope.specs.Given.{refusal, givenFirst, orAt, orIf, kindOf}
+use Rattle.envelope.specs.Given.{refusal, givenFirst, orAt, orIf, orRef, kindOf}
 use Rattle.envelope.specs.Rows.{isTamp, givenUnknown}
 
 module _ {A : Type 0} (to : Refusal → A) where
@@ -35,21 +34,25 @@ module _ {A : Type 0} (to : Refusal → A) where
       → givenFirst g to (givenAt f′ (λ o. to (refusal status o m′)) next) ≡ givenFirst g′ to next
   row-at g status {f} {m} e p q next = rw (e, ← p, ← q) (at-given g f status m next)
 
-  if-given : (g : Given) (b : Bool) (status : Status) (m : Element) (next : A)
-      → givenFirst g to (givenIf b (to (refusal status 0 m)) next) ≡ givenFirst (orIf g b status m) to next
-  unfolding givenFirst orIf givenIf
-  if-given (First r) b status m next = refl
-  if-given Nothing false status m next = refl
-  if-given Nothing true status m next = refl
+  ref-given : (g : Given) (b : Bool) (status : Status) (m r : Element) (next : A)
+      → givenFirst g to (givenIf b (to (record { status = status; offset = 0; msgtype = m; msgref = r })) next) ≡ givenFirst (orRef g b status m r) to next
+  unfolding givenFirst orRef givenIf
+  ref-given (First f) b status m r next = refl
+  ref-given Nothing false status m r next = refl
+  ref-given Nothing true status m r next = refl
+
+  pub row-ref : (g : Given) (status : Status) {g′ : Given} {b b′ : Bool} {m m′ r r′ : Element} → g′ ≡ orRef g b status m r → b ≡ b′ → m ≡ m′ → r ≡ r′ → (next : A)
+      → givenFirst g to (givenIf b′ (to (record { status = status; offset = 0; msgtype = m′; msgref = r′ })) next) ≡ givenFirst g′ to next
+  row-ref g status {b} {m} {r} e p q k next = rw (e, ← p, ← q, ← k) (ref-given g b status m r next)
 
   pub row-if : (g : Given) (status : Status) {g′ : Given} {b b′ : Bool} {m m′ : Element} → g′ ≡ orIf g b status m → b ≡ b′ → m ≡ m′ → (next : A)
       → givenFirst g to (givenIf b′ (to (refusal status 0 m′)) next) ≡ givenFirst g′ to next
-  row-if g status {b} {m} e p q next = rw (e, ← p, ← q) (if-given g b status m next)
+  row-if g status e p q next = row-ref g status e p q refl next
 
 -- 18
 unknown-given : (g : Given) (r : Recognised) (status : Status) (m : Element) (next : TampType → Envelope)
     → givenFirst g Refused (givenUnknown r (Refused (refusal status 0 m)) next) ≡ givenFirst (orIf g (not (isTamp r)) status m) Refused (next (kindOf r))
-unfolding givenFirst orIf givenIf givenUnknown
+unfolding givenFirst orRef givenIf givenUnknown
 unknown-given (First r) k status m next = refl
 unknown-given Nothing (Tamp t) status m next = refl
 unknown-given Nothing Unknown status m next = refl

@@ -1,4 +1,3 @@
-pub mod OneRow
 pub mod Chain
 pub mod Runs
 pub mod Attributes

@@ -29,9 +29,14 @@ module _ {A : Type 0} where
 unfoldable pub orAt : Given → Fit → Status → Element → Given
 orAt given rule status msgtype = givenFirst given First (givenAt rule (λ o. First (refusal status o msgtype)) Nothing)
 
--- .. or by its test
-unfoldable pub orIf : Given → Bool → Status → Element → Given
-orIf given applies status msgtype = givenFirst given First (givenIf applies (First (refusal status 0 msgtype)) Nothing)
+-- .. or by its test, with msgRef ("with msgRef from 127 on")
+unfoldable pub orRef : Given → Bool → Status → Element → Element → Given
+orRef given applies status msgtype msgref =
+    givenFirst given First (givenIf applies (First (record { status = status; offset = 0; msgtype = msgtype; msgref = msgref })) Nothing)
+
+-- .. without it
+abbrev pub orIf : Given → Bool → Status → Element → Given
+orIf given applies status msgtype = orRef given applies status msgtype (absent 0)
 
 -- row 18 hands on which of the four types it is; what stands for the others is refused there
 abbrev pub kindOf : Recognised → TampType

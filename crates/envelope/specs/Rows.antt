@@ -10,7 +10,6 @@ use Rattle.octets.specs.First.{givenIf}
 use Rattle.octets.specs.Limits.{maxDepth}
 use Rattle.der.specs.declared.Element.{Element}
 use Rattle.der.specs.declared.Fit.{Fit}
-use Rattle.der.specs.declared.Fit.the-variants.{Fits, Breaks}
 use Rattle.der.specs.Element.{absent, contents}
 use Rattle.der.specs.Fit.{held, kept, givenAt}
 use Rattle.der.specs.Check.{spans}
@@ -20,10 +19,9 @@ use Rattle.syntax.specs.declared.Recognised.the-variants.{Tamp, Unknown}
 use Rattle.syntax.specs.Grammar.{end, required, fit}
 use Rattle.syntax.specs.Asn.{ContentInfo, ContentInfoSignedData, SignedData, EncapsulatedContentInfo, OneSignerInfo}
 use Rattle.syntax.specs.Types.{recognised}
-use Rattle.envelope.specs.declared.Signed.{Signed}
 use Rattle.envelope.specs.declared.Envelope.{Envelope}
 use Rattle.envelope.specs.declared.Envelope.the-variants.{Opened, Refused}
-use Rattle.envelope.specs.Parts.{contentInfo, contentType, content, encapContentInfo, certificates, crls, signerInfos, eContentType, eContentTag, eContent}
+use Rattle.envelope.specs.Parts.{contentType, content, encapContentInfo, certificates, crls, signerInfos, eContentType, eContentTag, eContent}
 use Rattle.envelope.specs.Parts.{signerInfo, subjectKeyIdentifier, signedAttrs, unsignedAttrs}
 use Rattle.envelope.specs.Attributes.{attributesFit}
 use Rattle.envelope.specs.Given.{refusal}

@@ -18,7 +18,7 @@ ghost use Rattle.envelope.specs.Attributes.{
   repeated,
   attributesFit,
 };
-ghost use Rattle.envelope.specs.Given.{refusal, givenFirst, orAt, orIf, kindOf};
+ghost use Rattle.envelope.specs.Given.{givenFirst, orAt, orIf, orRef, kindOf};
 ghost use Rattle.envelope.specs.Rows.{isTamp, row-1, row-29, row-2, envelope};
 use der::Element;
 use der::Fit;
@@ -60,7 +60,7 @@ pub enum Envelope {
     Refused(Refusal),
 }
 
-pub fn no_element() -> Element
+fn no_element() -> Element
     ensures { λ r. ⌜ r ≡ absent 0 ⌝ }
 {
     Element {
@@ -69,19 +69,6 @@ pub fn no_element() -> Element
         at: 0,
         start: 0,
         stop: 0,
-    }
-}
-
-// A refusal without msgRef.
-fn refuse(status: Status, offset: usize, msgtype: Element) -> Refusal
-    ensures { λ r. ⌜ r ≡ refusal status offset msgtype ⌝ }
-{
-    let none = no_element();
-    Refusal {
-        status: status,
-        offset: offset,
-        msgtype: msgtype,
-        msgref: none,
     }
 }
 
@@ -99,23 +86,41 @@ impl Given {
         let Given::Nothing = self else {
             return self;
         };
-        if let Fit::Breaks(offset) = rule {
-            return Given::First(refuse(status, offset, msgtype));
-        }
-        self
+        let Fit::Breaks(offset) = rule else {
+            return self;
+        };
+        let none = no_element();
+        Given::First(Refusal {
+            status: status,
+            offset: offset,
+            msgtype: msgtype,
+            msgref: none,
+        })
     }
 
     // Else the row of a test, where it applies.
     pub fn or_if(self, applies: bool, status: Status, msgtype: Element) -> Given
         ensures { λ r. ⌜ r ≡ orIf self applies status msgtype ⌝ }
     {
+        self.or_ref(applies, status, msgtype, no_element())
+    }
+
+    // .. with msgRef, from 127 on.
+    pub fn or_ref(self, applies: bool, status: Status, msgtype: Element, msgref: Element) -> Given
+        ensures { λ r. ⌜ r ≡ orRef self applies status msgtype msgref ⌝ }
+    {
         let Given::Nothing = self else {
             return self;
         };
-        if applies {
-            return Given::First(refuse(status, 0, msgtype));
+        if !applies {
+            return self;
         }
-        self
+        Given::First(Refusal {
+            status: status,
+            offset: 0,
+            msgtype: msgtype,
+            msgref: msgref,
+        })
     }
 }
 
