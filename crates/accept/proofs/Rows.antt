@@ -6,7 +6,9 @@ use mathlib.Core.List.{List, map}
 use mathlib.Core.Option.{Option}
 use mathlib.Core.Path.{_≡_, refl, sym, ap, _∙_}
 use lib.ListN.{length, length-map}
-use Rattle.octets.specs.First.{givenIf}
+use Rattle.octets.specs.declared.Status.{Status}
+use Rattle.octets.specs.First.{givenIf, refuses, orIf}
+use Rattle.octets.proofs.First.{row-if}
 use Rattle.octets.specs.Status.{notAuthorized, seqNumFailure}
 use Rattle.der.specs.declared.Element.{Element}
 use Rattle.der.specs.Element.{contents, field}
@@ -69,32 +71,36 @@ module _ (s : List ℕ) (q : Request) {o : Option ℕ} where
   number-weighed h e f k m = rw (← f, e, m, k, asked-seqNum s q h)
 
 -- both by the anchor at the signer's position
-module _ (image s : List ℕ) (q : Request) (i : ℕ) (below : i < length (recordsOf image)) {a b : Bool} where
-  pub store-11 : a ≡ row-11 (rightsOn image i) s q → a ≡ b → row-11 (rightsAt (storeIn image) i) s q ≡ b
-  store-11 e f = rw (← rights-at image i below, ← e) f
+module _ (image s : List ℕ) (q : Request) (i : ℕ) (below : i < length (recordsOf image)) {b : Bool} where
+  pub store-11 : b ≡ row-11 (rightsOn image i) s q → b ≡ row-11 (rightsAt (storeIn image) i) s q
+  store-11 e = rw (← rights-at image i below) e
 
-  pub store-21 : a ≡ row-21 (numberIn (recordOf image i)) s q → a ≡ b → row-21 (numberAt (storeIn image) i) s q ≡ b
-  store-21 e f = rw (← number-at image i below, ← e) f
+  pub store-21 : b ≡ row-21 (numberIn (recordOf image i)) s q → b ≡ row-21 (numberAt (storeIn image) i) s q
+  store-21 e = rw (← number-at image i below) e
 
--- the rows behind 16
-module _ (σ : Store) (s : List ℕ) (q : Request) (i : ℕ) where
-  pub weigh-target : {t : Target} → targetFor σ s q ≡ t → isNamed t ≡ false → weighed σ s q i ≡ refuse q (targetStatus t)
-  unfolding weighed givenIf
-  weigh-target e n = rw (e, n)
+-- 38 and 23
+target-refuses : (t : Target) → not (isNamed t) ≡ refuses (targetStatus t)
+unfolding isNamed targetStatus
+target-refuses target.Named = refl
+target-refuses target.Unsupported = refl
+target-refuses target.Elsewhere = refl
 
-  module _ (t : targetFor σ s q ≡ target.Named) where
-    pub weigh-11 : row-11 (rightsAt σ i) s q ≡ true → weighed σ s q i ≡ refuse q notAuthorized
-    unfolding weighed isNamed givenIf
-    weigh-11 e = rw (t, e)
+-- the rows behind 16: the code's tests, and its status after each row
+module _ (σ : Store) (s : List ℕ) (q : Request) (i : ℕ) {t : Target} {a b : Bool} (e : t ≡ targetFor σ s q) (f : a ≡ row-11 (rightsAt σ i) s q)
+    (g : b ≡ row-21 (numberAt σ i) s q) {c c1 c2 : Status} (r : c ≡ targetStatus t) (r1 : c1 ≡ orIf c a notAuthorized) (r2 : c2 ≡ orIf c1 b seqNumFailure) where
+  by-status : weighed σ s q i ≡ givenIf (refuses c2) (refuse q c2) (Accepts q i)
+  unfolding weighed
+  by-status =
+      let named : not (isNamed (targetFor σ s q)) ≡ refuses c = rw (r, e) (target-refuses (targetFor σ s q)) in
+      rw (named, ← e, ← r) (row-if (refuse q) _ _ r1 f refl _) ∙ row-if (refuse q) _ _ r2 g refl _
 
-    module _ (a : row-11 (rightsAt σ i) s q ≡ false) where
-      pub weigh-21 : row-21 (numberAt σ i) s q ≡ true → weighed σ s q i ≡ refuse q seqNumFailure
-      unfolding weighed isNamed givenIf
-      weigh-21 e = rw (t, a, e)
+  pub weigh-refuses : refuses c2 ≡ true → refuse q c2 ≡ weighed σ s q i
+  unfolding givenIf
+  weigh-refuses h = sym (by-status ∙ rw h)
 
-      pub weigh-accepts : row-21 (numberAt σ i) s q ≡ false → weighed σ s q i ≡ Accepts q i
-      unfolding weighed isNamed givenIf
-      weigh-accepts e = rw (t, a, e)
+  pub weigh-accepts : refuses c2 ≡ false → Accepts q i ≡ weighed σ s q i
+  unfolding givenIf
+  weigh-accepts h = sym (by-status ∙ rw h)
 
 -- all rows
 module _ (image verdict s : List ℕ) where

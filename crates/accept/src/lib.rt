@@ -1,6 +1,7 @@
 // Acceptance: the rows 10, 16, 38, 23, 11 and 21 of 01's table, that is signer, target, rights and number.
 ghost use mathlib.Core.Path.{_≡_};
 ghost use Rattle.store.specs.Parts.{numberIn};
+ghost use Rattle.message.specs.Target.{targetStatus};
 ghost use Rattle.protocol.specs.Acceptance.{targetFor, row-11, tooLow, row-21, refuse as refuseOf, weighed};
 ghost use Rattle.accept.specs.Signer.{recordOf, constraintsAt, rightsOn};
 ghost use Rattle.accept.specs.Given.{Asking, AtRecord};
@@ -80,6 +81,17 @@ fn is_number_refused(image: &[u8], i: usize, s: &[u8], q: Request) -> bool
     is_too_low(kind, stored, n)
 }
 
+// 38: target is uri or otherName. 23: device not named.
+fn target_status(t: Target) -> Status
+    ensures { λ r. ⌜ r ≡ targetStatus t ⌝ }
+{
+    match t {
+        Target::Unsupported => Status::UNSUPPORTED_TARGET_IDENTIFIER,
+        Target::Elsewhere => Status::INCORRECT_TARGET,
+        Target::Named => Status::SUCCESS,
+    }
+}
+
 // 38 and 23: whether the target names the device.
 fn target_for(image: &[u8], s: &[u8], q: Request) -> Target
     ensures { λ r. ⌜ r ≡ targetFor (storeIn (now (image .entry))) (now (s .entry)) q ⌝ }
@@ -98,16 +110,11 @@ fn weigh(s: &[u8], image: &[u8], q: Request, i: usize) -> Judgement
     ensures { λ r.
         ⌜ Asking (now (s .entry)) q (AtRecord (now (image .entry)) i (r ≡ weighed (storeIn (now (image .entry))) (now (s .entry)) q i)) ⌝ }
 {
-    match target_for(image, s, q) {
-        Target::Unsupported => return refuse(q, Status::UNSUPPORTED_TARGET_IDENTIFIER),
-        Target::Elsewhere => return refuse(q, Status::INCORRECT_TARGET),
-        Target::Named => {}
-    }
-    if is_unauthorised(image, i, s, q) {
-        return refuse(q, Status::NOT_AUTHORIZED);
-    }
-    if is_number_refused(image, i, s, q) {
-        return refuse(q, Status::SEQ_NUM_FAILURE);
+    let status = target_status(target_for(image, s, q))
+        .or_if(is_unauthorised(image, i, s, q), Status::NOT_AUTHORIZED)
+        .or_if(is_number_refused(image, i, s, q), Status::SEQ_NUM_FAILURE);
+    if status.refuses() {
+        return refuse(q, status);
     }
     Judgement::Accepts(q, i)
 }

@@ -8,9 +8,8 @@ use Rattle.der.specs.declared.Fit.{Fit}
 use Rattle.der.specs.declared.Fit.the-variants.{Fits, Breaks}
 use Rattle.der.specs.declared.Element.{Element}
 use Rattle.der.specs.Element.{elementAt, contents, field, fieldBehind}
-use Rattle.der.specs.Fit.{kept}
+use Rattle.der.specs.Fit.{kept, held}
 use Rattle.der.proofs.Bools.{and-false}
-use Rattle.der.proofs.Fits.{held-fits, held-breaks}
 use Rattle.syntax.specs.declared.TampType.{TampType}
 use Rattle.syntax.specs.declared.Recognised.{Recognised}
 use Rattle.syntax.specs.declared.Recognised.the-variants.{Tamp, Unknown}
@@ -19,12 +18,11 @@ use Rattle.syntax.specs.Asn.{ContentInfo}
 use Rattle.syntax.specs.Types.{recognised}
 use Rattle.syntax.specs.declared.Form.the-variants as form
 use Rattle.syntax.specs.Forms.{formSyntax}
-use Rattle.envelope.specs.declared.Envelope.{Envelope}
 use Rattle.envelope.specs.declared.Envelope.the-variants.{Opened}
 use Rattle.envelope.specs.Parts.{contentInfo, contentType, content, signedData, encapContentInfo, certificates, crls, signerInfos, eContentType, eContentTag, eContent}
 use Rattle.envelope.specs.Parts.{signerInfo, subjectKeyIdentifier, signedAttrs, unsignedAttrs}
 use Rattle.envelope.specs.Attributes.{attributesFit}
-use Rattle.envelope.specs.Rows.{isTamp, row-29, row-3, row-4, row-9, row-18, row-5, row-6, row-7, row-8, givenUnknown}
+use Rattle.envelope.specs.Rows.{isTamp, row-29, row-3, row-4, row-9, row-18, row-5, row-6, row-7, row-8}
 
 -- 29: one of the four types, and a ContentInfo
 module _ (s : List ℕ) where
@@ -41,16 +39,6 @@ module _ (s : List ℕ) where
   pub bare-both : {t : TampType} → fit ContentInfo s 0 (length s) 0 ≡ Fits → recognised (contents s (contentType s)) ≡ Tamp t → true ≡ row-29 s
   unfolding row-29
   bare-both h k = sym (ap (λ (f : Fit). kept f && isTamp (recognised (contents s (contentType s)))) h ∙ ap isTamp k)
-
--- 18
-module _ (answer : Envelope) (next : TampType → Envelope) where
-  pub known : {r : Recognised} {t : TampType} → r ≡ Tamp t → givenUnknown r answer next ≡ next t
-  unfolding givenUnknown
-  known h = rw h
-
-  pub unknown : {r : Recognised} → r ≡ Unknown → givenUnknown r answer next ≡ answer
-  unfolding givenUnknown
-  unknown h = rw h
 
 -- the parts of the message, one from the other, and the rows that read them
 module _ (s : List ℕ) where
@@ -98,47 +86,43 @@ module _ (s : List ℕ) where
   unfolding unsignedAttrs
   unsignedAttrs-is p q = rw (← p) q
 
-  pub row-3-is : {e : Element} {f : Fit} → e ≡ content s → f ≡ fit (formSyntax form.SignedData) s (e .start) (e .stop) (e .at) → row-3 s ≡ f
+  pub row-3-is : {e : Element} {f : Fit} → e ≡ content s → f ≡ fit (formSyntax form.SignedData) s (e .start) (e .stop) (e .at) → f ≡ row-3 s
   unfolding row-3 formSyntax
-  row-3-is p q = rw (← p) (sym q)
+  row-3-is p q = rw (← p) q
 
   pub row-4-is : {e : Element} {f : Fit} → e ≡ encapContentInfo s
-      → f ≡ fit (formSyntax form.EncapsulatedContentInfo) s (e .start) (e .stop) (e .at) → row-4 s ≡ f
+      → f ≡ fit (formSyntax form.EncapsulatedContentInfo) s (e .start) (e .stop) (e .at) → f ≡ row-4 s
   unfolding row-4 formSyntax
-  row-4-is p q = rw (← p) (sym q)
+  row-4-is p q = rw (← p) q
 
-  pub row-9-is : {e : Element} → e ≡ eContentTag s → row-9 s ≡ not (e .good)
+  pub row-9-is : {e : Element} → e ≡ eContentTag s → not (e .good) ≡ row-9 s
   unfolding row-9
   row-9-is p = rw p
 
-  pub row-18-is : {e : Element} {o : List ℕ} {r : Recognised} → e ≡ eContentType s → o ≡ contents s e → r ≡ recognised o → row-18 s ≡ r
+  pub row-18-is : {e : Element} {o : List ℕ} {r : Recognised} → e ≡ eContentType s → o ≡ contents s e → r ≡ recognised o → r ≡ row-18 s
   unfolding row-18
-  row-18-is p q k = rw (← p, ← q) (sym k)
+  row-18-is p q k = rw (← p, ← q) k
 
-  pub row-5-is : {e : Element} {b : Bool} → e ≡ signedData s → b ≡ field 0xA0 s e .good || field 0xA1 s e .good → row-5 s ≡ b
+  pub row-5-is : {e : Element} {b : Bool} → e ≡ signedData s → b ≡ field 0xA0 s e .good || field 0xA1 s e .good → b ≡ row-5 s
   unfolding row-5 certificates crls
-  row-5-is p q = rw (← p) (sym q)
+  row-5-is p q = rw (← p) q
 
-  pub row-6-is : {e : Element} {f : Fit} → e ≡ signerInfos s → f ≡ fit (formSyntax form.OneSignerInfo) s (e .start) (e .stop) (e .at) → row-6 s ≡ f
+  pub row-6-is : {e : Element} {f : Fit} → e ≡ signerInfos s → f ≡ fit (formSyntax form.OneSignerInfo) s (e .start) (e .stop) (e .at) → f ≡ row-6 s
   unfolding row-6 formSyntax
-  row-6-is p q = rw (← p) (sym q)
+  row-6-is p q = rw (← p) q
 
-  pub row-7-is : {type signer attributes : Element} {o : List ℕ} {f : Fit} → type ≡ eContentType s → signer ≡ signerInfo s → attributes ≡ signedAttrs s
-      → o ≡ contents s type → f ≡ attributesFit o s signer attributes → row-7 s ≡ f
-  unfolding row-7
-  row-7-is p q r k h = rw (← p, ← q, ← r, ← k) (sym h)
+  pub row-7-is : {type signer : Element} {f : Fit} → type ≡ eContentType s → signer ≡ signerInfo s
+      → f ≡ attributesFit (contents s type) s signer (field 0xA0 s signer) → f ≡ row-7 s
+  unfolding row-7 signedAttrs
+  row-7-is p q h = rw (← p, ← q) h
 
-  pub row-8-fits : {e : Element} → e ≡ unsignedAttrs s → e .good ≡ false → row-8 s ≡ Fits
+  pub row-8-is : {e : Element} {f : Fit} → e ≡ unsignedAttrs s → f ≡ held (e .at) (not (e .good)) → f ≡ row-8 s
   unfolding row-8
-  row-8-fits p h = rw (← p) (held-fits _ (ap not h))
-
-  pub row-8-breaks : {e : Element} → e ≡ unsignedAttrs s → e .good ≡ true → row-8 s ≡ Breaks (e .at)
-  unfolding row-8
-  row-8-breaks p h = rw (← p) (held-breaks _ (ap not h))
+  row-8-is p h = rw (← p) h
 
 -- what the rows leave, part by part
-pub opened : {kind : TampType} {type type' content content' signer signer' attributes attributes' : Element}
-    → type ≡ type' → content ≡ content' → signer ≡ signer' → attributes ≡ attributes'
+pub opened : {kind kind′ : TampType} {type type′ content content′ signer signer′ attributes attributes′ : Element}
+    → kind ≡ kind′ → type ≡ type′ → content ≡ content′ → signer ≡ signer′ → attributes ≡ attributes′
     → Opened (record { kind = kind; msgtype = type; content = content; signer = signer; attributes = attributes })
-    ≡ Opened (record { kind = kind; msgtype = type'; content = content'; signer = signer'; attributes = attributes' })
-opened p q r h = rw (p, q, r, h)
+    ≡ Opened (record { kind = kind′; msgtype = type′; content = content′; signer = signer′; attributes = attributes′ })
+opened k p q r h = rw (k, p, q, r, h)

@@ -1,4 +1,4 @@
-pub mod Given
+pub mod Chain
 pub mod Runs
 pub mod Attributes
 pub mod Answers

@@ -1,3 +1,4 @@
 pub mod Parts
 pub mod Attributes
+pub mod Given
 pub mod Rows

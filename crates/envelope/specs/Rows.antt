@@ -10,7 +10,6 @@ use Rattle.octets.specs.First.{givenIf}
 use Rattle.octets.specs.Limits.{maxDepth}
 use Rattle.der.specs.declared.Element.{Element}
 use Rattle.der.specs.declared.Fit.{Fit}
-use Rattle.der.specs.declared.Fit.the-variants.{Fits, Breaks}
 use Rattle.der.specs.Element.{absent, contents}
 use Rattle.der.specs.Fit.{held, kept, givenAt}
 use Rattle.der.specs.Check.{spans}
@@ -20,13 +19,12 @@ use Rattle.syntax.specs.declared.Recognised.the-variants.{Tamp, Unknown}
 use Rattle.syntax.specs.Grammar.{end, required, fit}
 use Rattle.syntax.specs.Asn.{ContentInfo, ContentInfoSignedData, SignedData, EncapsulatedContentInfo, OneSignerInfo}
 use Rattle.syntax.specs.Types.{recognised}
-use Rattle.envelope.specs.declared.Signed.{Signed}
-use Rattle.envelope.specs.declared.Refusal.{Refusal}
 use Rattle.envelope.specs.declared.Envelope.{Envelope}
 use Rattle.envelope.specs.declared.Envelope.the-variants.{Opened, Refused}
-use Rattle.envelope.specs.Parts.{contentInfo, contentType, content, encapContentInfo, certificates, crls, signerInfos, eContentType, eContentTag, eContent}
+use Rattle.envelope.specs.Parts.{contentType, content, encapContentInfo, certificates, crls, signerInfos, eContentType, eContentTag, eContent}
 use Rattle.envelope.specs.Parts.{signerInfo, subjectKeyIdentifier, signedAttrs, unsignedAttrs}
 use Rattle.envelope.specs.Attributes.{attributesFit}
+use Rattle.envelope.specs.Given.{refusal}
 
 abbrev pub isTamp : Recognised → Bool
 isTamp (Tamp t) = true
@@ -76,9 +74,8 @@ row-7 s = attributesFit (contents s (eContentType s)) s (signerInfo s) (signedAt
 unfoldable pub row-8 : List ℕ → Fit
 row-8 s = let u = unsignedAttrs s in held (u .at) (not (u .good))
 
--- a refusal, with msgType where it has a reply ("Statuses 1, 2, 3 and 4 have no reply"), and without msgRef ("with msgRef from 127 on")
 abbrev pub refuse : Status → ℕ → Element → Envelope
-refuse status offset msgtype = Refused (record { status = status; offset = offset; msgtype = msgtype; msgref = absent 0 })
+refuse status offset msgtype = Refused (refusal status offset msgtype)
 
 -- row 18 hands on which of the four types it is
 unfoldable pub givenUnknown : Recognised → Envelope → (TampType → Envelope) → Envelope

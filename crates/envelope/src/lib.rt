@@ -18,7 +18,8 @@ ghost use Rattle.envelope.specs.Attributes.{
   repeated,
   attributesFit,
 };
-ghost use Rattle.envelope.specs.Rows.{row-29, refuse as refusalOf, envelope};
+ghost use Rattle.envelope.specs.Given.{givenFirst, orAt, orIf, orRef, kindOf};
+ghost use Rattle.envelope.specs.Rows.{isTamp, row-1, row-29, row-2, envelope};
 use der::Element;
 use der::Fit;
 use octets::Status;
@@ -59,7 +60,7 @@ pub enum Envelope {
     Refused(Refusal),
 }
 
-pub fn no_element() -> Element
+fn no_element() -> Element
     ensures { λ r. ⌜ r ≡ absent 0 ⌝ }
 {
     Element {
@@ -71,16 +72,56 @@ pub fn no_element() -> Element
     }
 }
 
-fn refuse(status: Status, offset: usize, msgtype: Element) -> Envelope
-    ensures { λ r. ⌜ r ≡ refusalOf status offset msgtype ⌝ }
-{
-    let none = no_element();
-    Envelope::Refused(Refusal {
-        status: status,
-        offset: offset,
-        msgtype: msgtype,
-        msgref: none,
-    })
+// 01, Answers: "The first that applies is given": what the rows so far give.
+pub enum Given {
+    Nothing,
+    First(Refusal),
+}
+
+impl Given {
+    // Else the row of a rule, where an element breaks it.
+    pub fn or_at(self, rule: Fit, status: Status, msgtype: Element) -> Given
+        ensures { λ r. ⌜ r ≡ orAt self rule status msgtype ⌝ }
+    {
+        let Given::Nothing = self else {
+            return self;
+        };
+        let Fit::Breaks(offset) = rule else {
+            return self;
+        };
+        let none = no_element();
+        Given::First(Refusal {
+            status: status,
+            offset: offset,
+            msgtype: msgtype,
+            msgref: none,
+        })
+    }
+
+    // Else the row of a test, where it applies.
+    pub fn or_if(self, applies: bool, status: Status, msgtype: Element) -> Given
+        ensures { λ r. ⌜ r ≡ orIf self applies status msgtype ⌝ }
+    {
+        self.or_ref(applies, status, msgtype, no_element())
+    }
+
+    // .. with msgRef, from 127 on.
+    pub fn or_ref(self, applies: bool, status: Status, msgtype: Element, msgref: Element) -> Given
+        ensures { λ r. ⌜ r ≡ orRef self applies status msgtype msgref ⌝ }
+    {
+        let Given::Nothing = self else {
+            return self;
+        };
+        if !applies {
+            return self;
+        }
+        Given::First(Refusal {
+            status: status,
+            offset: 0,
+            msgtype: msgtype,
+            msgref: msgref,
+        })
+    }
 }
 
 // ContentInfo's type.
@@ -102,6 +143,20 @@ fn is_bare(s: &[u8]) -> bool
         return false;
     }
     true
+}
+
+// 1: one element spans the message, as DER.
+fn der_fit(s: &[u8]) -> Fit
+    ensures { λ r. ⌜ r ≡ row-1 (now (s .entry)) ⌝ }
+{
+    der::spans(s, 0, s.len(), 0, octets::MAX_DEPTH)
+}
+
+// 2: a ContentInfo of type signedData.
+fn info_fit(s: &[u8]) -> Fit
+    ensures { λ r. ⌜ r ≡ row-2 (now (s .entry)) ⌝ }
+{
+    syntax::fits(Form::ContentInfoSignedData, s, 0, s.len(), 0)
 }
 
 // attrType of an Attribute.
@@ -212,11 +267,58 @@ fn attributes_fit(about: &[u8], s: &[u8], signer: Element, attributes: Element) 
     Fit::Fits
 }
 
-// Whether the contents of e are as the form says.
-fn contents_fit(form: Form, s: &[u8], e: Element) -> Fit
-    ensures { λ r. ⌜ r ≡ fit (formSyntax form) (now (s .entry)) (e .start) (e .stop) (e .at) ⌝ }
+// 7: the signed attributes of the SignerInfo.
+fn attrs_fit(s: &[u8], about: Element, signer: Element) -> Fit
+    ensures { λ r.
+        ⌜ r ≡ attributesFit (contentsOf (now (s .entry)) about) (now (s .entry)) signer (field 0xA0 (now (s .entry)) signer) ⌝ }
 {
-    syntax::fits(form, s, e.start, e.stop, e.at)
+    attributes_fit(
+        der::contents(s, about),
+        s,
+        signer,
+        der::field(s, signer, 0xA0),
+    )
+}
+
+// 3: the content is SignedData.
+fn signed_data_fit(s: &[u8], e: Element) -> Fit
+    ensures { λ r. ⌜ r ≡ fit (formSyntax Form.SignedData) (now (s .entry)) (e .start) (e .stop) (e .at) ⌝ }
+{
+    syntax::fits(Form::SignedData, s, e.start, e.stop, e.at)
+}
+
+// 4: the encapsulated content is well formed.
+fn encap_fit(s: &[u8], e: Element) -> Fit
+    ensures { λ r. ⌜ r ≡ fit (formSyntax Form.EncapsulatedContentInfo) (now (s .entry)) (e .start) (e .stop) (e .at) ⌝ }
+{
+    syntax::fits(Form::EncapsulatedContentInfo, s, e.start, e.stop, e.at)
+}
+
+// 6: there is exactly one SignerInfo.
+fn signers_fit(s: &[u8], e: Element) -> Fit
+    ensures { λ r. ⌜ r ≡ fit (formSyntax Form.OneSignerInfo) (now (s .entry)) (e .start) (e .stop) (e .at) ⌝ }
+{
+    syntax::fits(Form::OneSignerInfo, s, e.start, e.stop, e.at)
+}
+
+// 18: not one of the four types.
+fn is_unknown(r: Recognised) -> bool
+    ensures { λ b. ⌜ b ≡ not (isTamp r) ⌝ }
+{
+    if let Recognised::Unknown = r {
+        return true;
+    }
+    false
+}
+
+// Which of the four types. Behind row 18 it is one of them; what stands for the others is never handed on.
+fn kind_of(r: Recognised) -> TampType
+    ensures { λ t. ⌜ t ≡ kindOf r ⌝ }
+{
+    let Recognised::Tamp(kind) = r else {
+        return TampType::StatusQuery;
+    };
+    kind
 }
 
 // 5: SignedData has certificates or CRLs.
@@ -231,64 +333,64 @@ fn has_certificates(s: &[u8], signed: Element) -> bool
     crls.good
 }
 
+// 8: the field e is absent.
+fn is_absent(e: Element) -> Fit
+    ensures { λ r. ⌜ r ≡ held (e .at) (not (e .good)) ⌝ }
+{
+    if e.good {
+        return Fit::Breaks(e.at);
+    }
+    Fit::Fits
+}
+
+// What the rows give, else what the wrapper holds.
+fn opened(given: Given, signed: Signed) -> Envelope
+    ensures { λ r. ⌜ r ≡ givenFirst given Envelope.Refused (Envelope.Opened signed) ⌝ }
+{
+    match given {
+        Given::First(r) => Envelope::Refused(r),
+        Given::Nothing => Envelope::Opened(signed),
+    }
+}
+
 // What the rows 1, 29, 2, 3, 4, 9, 18, 5, 6, 7 and 8 find, in their order.
+// An absent part has nothing inside, so each row is computed whatever the others find: a refused message costs what an accepted one does.
 pub fn open(s: &[u8]) -> Envelope
     ensures { λ r. ⌜ r ≡ envelope (now (s .entry)) ⌝ }
 {
     let none = no_element();
-    let n = s.len();
-    if let Fit::Breaks(o) = der::spans(s, 0, n, 0, octets::MAX_DEPTH) {
-        return refuse(Status::DECODE_FAILURE, o, none);
-    }
-    if is_bare(s) {
-        return refuse(Status::MISSING_SIGNATURE, 0, content_type(s));
-    }
-    if let Fit::Breaks(o) = syntax::fits(Form::ContentInfoSignedData, s, 0, n, 0) {
-        return refuse(Status::BAD_CONTENT_INFO, o, none);
-    }
-    let info = der::element_at(s, 0, n);
+    let info = der::element_at(s, 0, s.len());
     let content = der::field(s, info, 0xA0);
-    if let Fit::Breaks(o) = contents_fit(Form::SignedData, s, content) {
-        return refuse(Status::BAD_SIGNED_DATA, o, none);
-    }
     let signed = der::field(s, content, 0x30);
     let encap = der::field(s, signed, 0x30);
-    if let Fit::Breaks(o) = contents_fit(Form::EncapsulatedContentInfo, s, encap) {
-        return refuse(Status::BAD_ENCAP_CONTENT, o, none);
-    }
     let about = der::field(s, encap, 0x06);
     let tag = der::field(s, encap, 0xA0);
-    if !tag.good {
-        return refuse(Status::MISSING_CONTENT, 0, about);
-    }
-    let Recognised::Tamp(kind) = syntax::recognise(der::contents(s, about)) else {
-        return refuse(Status::UNSUPPORTED_TAMP_MSG_TYPE, 0, about);
-    };
-    if has_certificates(s, signed) {
-        return refuse(Status::BAD_CERTIFICATE, 0, about);
-    }
     let infos = der::field_behind(s, signed, encap, 0x31);
-    if let Fit::Breaks(o) = contents_fit(Form::OneSignerInfo, s, infos) {
-        return refuse(Status::BAD_SIGNER_INFO, o, about);
-    }
-    let signer_info = der::field(s, infos, 0x30);
-    let attributes = der::field(s, signer_info, 0xA0);
-    if let Fit::Breaks(o) = attributes_fit(der::contents(s, about), s, signer_info, attributes) {
-        return refuse(Status::BAD_SIGNED_ATTRS, o, about);
-    }
-    let unsigned = der::field(s, signer_info, 0xA1);
-    if unsigned.good {
-        return refuse(Status::BAD_UNSIGNED_ATTRS, unsigned.at, about);
-    }
-    let octets = der::field(s, tag, 0x04);
-    let signer = der::field(s, signer_info, 0x80);
-    Envelope::Opened(Signed {
-        kind: kind,
-        msgtype: about,
-        content: octets,
-        signer: signer,
-        attributes: attributes,
-    })
+    let signer = der::field(s, infos, 0x30);
+    let unsigned = der::field(s, signer, 0xA1);
+    let known = syntax::recognise(der::contents(s, about));
+    let given = Given::Nothing
+        .or_at(der_fit(s), Status::DECODE_FAILURE, none)
+        .or_if(is_bare(s), Status::MISSING_SIGNATURE, content_type(s))
+        .or_at(info_fit(s), Status::BAD_CONTENT_INFO, none)
+        .or_at(signed_data_fit(s, content), Status::BAD_SIGNED_DATA, none)
+        .or_at(encap_fit(s, encap), Status::BAD_ENCAP_CONTENT, none)
+        .or_if(!tag.good, Status::MISSING_CONTENT, about)
+        .or_if(is_unknown(known), Status::UNSUPPORTED_TAMP_MSG_TYPE, about)
+        .or_if(has_certificates(s, signed), Status::BAD_CERTIFICATE, about)
+        .or_at(signers_fit(s, infos), Status::BAD_SIGNER_INFO, about)
+        .or_at(attrs_fit(s, about, signer), Status::BAD_SIGNED_ATTRS, about)
+        .or_at(is_absent(unsigned), Status::BAD_UNSIGNED_ATTRS, about);
+    opened(
+        given,
+        Signed {
+            kind: kind_of(known),
+            msgtype: about,
+            content: der::field(s, tag, 0x04),
+            signer: der::field(s, signer, 0x80),
+            attributes: der::field(s, signer, 0xA0),
+        },
+    )
 }
 
 // eContent, and the signer's key identifier, as parts of the message.

@@ -6,6 +6,7 @@ ghost use Rattle.octets.specs.Lists.{anyOf};
 ghost use Rattle.octets.specs.Octets.{member};
 ghost use Rattle.octets.specs.Number.{number};
 ghost use Rattle.der.specs.Element.{whole as wholeOf, contents as contentsOf, inside};
+ghost use Rattle.envelope.specs.Given.{givenFirst};
 ghost use Rattle.message.specs.Fields.{targetIn, updatesIn, entryOf};
 ghost use Rattle.message.specs.Rows.{row-36, row-127, asksForm, unwrapped, received};
 ghost use Rattle.message.specs.Names.{namesIn};
@@ -13,6 +14,7 @@ ghost use Rattle.message.specs.Target.{blockNames, entryNames, moduleNam
 use der::Element;
 use der::Fit;
 use envelope::Envelope;
+use envelope::Given;
 use envelope::Refusal;
 use envelope::Signed;
 use octets::Status;
@@ -87,47 +89,43 @@ fn wants_verbose(kind: TampType, s: &[u8], body: Element) -> bool
     !terse.good
 }
 
-fn refuse(status: Status, offset: usize, msgtype: Element, msgref: Element) -> Received
-    ensures { λ r. ⌜ r ≡ Received.Refused (record { status = status; offset = offset; msgtype = msgtype; msgref = msgref }) ⌝ }
+// What the rows give, else what is asked.
+fn passed(given: Given, q: Request) -> Received
+    ensures { λ r. ⌜ r ≡ givenFirst given Received.Refused (Received.Asks q) ⌝ }
 {
-    Received::Refused(Refusal {
-        status: status,
-        offset: offset,
-        msgtype: msgtype,
-        msgref: msgref,
-    })
+    match given {
+        Given::First(r) => Received::Refused(r),
+        Given::Nothing => Received::Asks(q),
+    }
 }
 
 // What is in the wrapper, by the rows 36, 31 and 127.
 pub fn unwrap(s: &[u8], w: Signed) -> Received
     ensures { λ r. ⌜ r ≡ unwrapped (now (s .entry)) w ⌝ }
 {
-    let none = envelope::no_element();
     let kind = w.kind;
     let about = w.msgtype;
     let content = w.content;
-    if let Fit::Breaks(o) = body_fit(kind, s, content) {
-        return refuse(Status::MALFORMED, o, about, none);
-    }
     let body = der::element_at(s, content.start, content.stop);
     let version = der::field(s, body, 0x80);
-    if version.good {
-        return refuse(Status::VERSION_NUMBER_MISMATCH, 0, about, none);
-    }
     let msgref = der::field(s, body, 0x30);
-    if wants_verbose(kind, s, body) {
-        return refuse(Status::OTHER, 0, about, msgref);
-    }
+    let given = Given::Nothing
+        .or_at(body_fit(kind, s, content), Status::MALFORMED, about)
+        .or_if(version.good, Status::VERSION_NUMBER_MISMATCH, about)
+        .or_ref(wants_verbose(kind, s, body), Status::OTHER, about, msgref);
     let signer = w.signer;
     let attributes = w.attributes;
-    Received::Asks(Request {
-        kind: kind,
-        msgtype: about,
-        signer: signer,
-        attributes: attributes,
-        body: body,
-        msgref: msgref,
-    })
+    passed(
+        given,
+        Request {
+            kind: kind,
+            msgtype: about,
+            signer: signer,
+            attributes: attributes,
+            body: body,
+            msgref: msgref,
+        },
+    )
 }
 
 // The rows up to 127: what depends on the message alone.

@@ -4,3 +4,4 @@ pub mod Parts
 pub mod Placed
 pub mod Turns
 pub mod Number
+pub mod First

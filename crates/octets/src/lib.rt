@@ -2,6 +2,7 @@
 ghost use mathlib.Core.Path.{_≡_};
 ghost use Prim.Native.Nat.{_+_, _<_, _≤_, _^_, min};
 ghost use lib.ListN.{length, take, drop};
+ghost use Rattle.octets.specs.First.{refuses as isRefusal, orIf};
 ghost use Rattle.octets.specs.Octets.{same, ordered, part as partOf, placed};
 ghost use Rattle.octets.specs.Number.{number, bigEndian, digits};
 
@@ -116,6 +117,25 @@ impl Status {
     pub const LONG_MESSAGE: Status = Status { number: 204 };
 
     pub const LONG_REPLY: Status = Status { number: 205 };
+
+    pub fn refuses(self) -> bool
+        ensures { λ r. ⌜ r ≡ isRefusal self ⌝ }
+    {
+        0 < self.number
+    }
+
+    // "The first that applies is given": this one where it refuses, else the next where its row applies.
+    pub fn or_if(self, applies: bool, next: Status) -> Status
+        ensures { λ r. ⌜ r ≡ orIf self applies next ⌝ }
+    {
+        if self.refuses() {
+            return self;
+        }
+        if applies {
+            return next;
+        }
+        self
+    }
 }
 
 // Two octet strings are equal. From the last octet to the first: keys and OIDs begin alike and differ in their last octets, so a difference is found at once.

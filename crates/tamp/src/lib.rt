@@ -361,7 +361,7 @@ fn decide(message: &[u8], image: &[u8], verdict: &[u8], reply: &mut [u8], next: 
     }
 }
 
-// The call: 201 to 204 in their order, then 205 or the answer.
+// The call: 201 to 204 in their order, then 205 or the answer. The rows behind 201 are computed on any octets.
 #[no_mangle]
 pub extern "C" fn tamp_call(
     message: &[u8],
@@ -382,17 +382,13 @@ pub extern "C" fn tamp_call(
         (now (reply .entry))
         (now (next .entry)) ⌝ }
 {
-    if !image::is_image(image) {
-        return Answer::refusal(Status::BAD_IMAGE);
-    }
-    if !is_verdict(image, verdict) {
-        return Answer::refusal(Status::BAD_VERDICT);
-    }
-    if is_small(reply.len(), next.len()) {
-        return Answer::refusal(Status::SMALL_BUFFER);
-    }
-    if octets::MAX_MESSAGE < message.len() {
-        return Answer::refusal(Status::LONG_MESSAGE);
+    let status = Status::SUCCESS
+        .or_if(!image::is_image(image), Status::BAD_IMAGE)
+        .or_if(!is_verdict(image, verdict), Status::BAD_VERDICT)
+        .or_if(is_small(reply.len(), next.len()), Status::SMALL_BUFFER)
+        .or_if(octets::MAX_MESSAGE < message.len(), Status::LONG_MESSAGE);
+    if status.refuses() {
+        return Answer::refusal(status);
     }
     decide(message, image, verdict, reply, next)
 }

@@ -1,32 +1,9 @@
 -- `message::unwrap` meets its contract. Assumes nothing.
 use borrow.Author.Needs.{needs}
-use mathlib.Core.Path.{sym, _∙_}
-use Rattle.message.proofs.Rows.{unwrap-36, unwrap-31, unwrap-127, unwrap-asks}
+use mathlib.Core.Path.{_∙_}
+use Rattle.message.proofs.Rows.{unwraps}
 use Rattle.message.proofs.unwrap.Statement.{statement}
 use Rattle.message.proofs.unwrap.Tie as tie
-
-no-element-requires : tie.Need-no-element-requires
-no-element-requires c κs = search needs
-
-body-fit-requires : tie.Need-body-fit-requires
-body-fit-requires c κs = search needs
-
-enum-known-o : tie.Need-enum-known-o
-enum-known-o c = search needs
-
-refuse-requires : tie.Need-refuse-requires
-refuse-requires c κs = search needs
-
-returns : tie.Need-returns
-returns c =
-    let c4 = c .before .before .before .before in
-    let c7 = c4 .before .before .before in
-    let a = c7 .before .before .args in
-    let n = c7 .no-element .ensures in
-    c .refuse .ensures ∙ unwrap-36 (a .s .now) (a .w) n (sym (c4 .body-fit .ensures) ∙ c .before .before .o .given .1)
-
-enum-told : tie.Need-enum-told
-enum-told c = search needs
 
 element-at-requires : tie.Need-element-at-requires
 element-at-requires c κs = search needs
@@ -34,71 +11,58 @@ element-at-requires c κs = search needs
 field-requires : tie.Need-field-requires
 field-requires c κs = search needs
 
-refuse-requires-2 : tie.Need-refuse-requires-2
-refuse-requires-2 c κs = search needs
-
-returns-2 : tie.Need-returns-2
-returns-2 c =
-    let c3 = c .before .before .before in
-    let c6 = c3 .before .before .before in
-    let c9 = c6 .before .before .before in
-    let a = c9 .before .before .args in
-    let n = c9 .no-element .ensures in
-    let f = sym (c6 .body-fit .ensures) ∙ c3 .before .enum-told .given .1 in
-    let b = c3 .element-at .ensures in
-    c .refuse2 .ensures ∙ unwrap-31 (a .s .now) (a .w) n f b (c .before .before .field .ensures) (c .before .if1 .taken)
-
 field-requires-2 : tie.Need-field-requires-2
 field-requires-2 c κs = search needs
+
+body-fit-requires : tie.Need-body-fit-requires
+body-fit-requires c κs = search needs
+
+or-at-requires : tie.Need-or-at-requires
+or-at-requires c κs = search needs
+
+or-if-requires : tie.Need-or-if-requires
+or-if-requires c κs = search needs
 
 wants-verbose-requires : tie.Need-wants-verbose-requires
 wants-verbose-requires c κs = search needs
 
-refuse-requires-3 : tie.Need-refuse-requires-3
-refuse-requires-3 c κs = search needs
+or-ref-requires : tie.Need-or-ref-requires
+or-ref-requires c κs = search needs
 
-returns-3 : tie.Need-returns-3
-returns-3 c =
-    let c3 = c .before .before .before in
-    let c6 = c3 .before .before .before in
-    let c9 = c6 .before .before .before in
-    let c12 = c9 .before .before .before in
-    let a = c12 .before .before .args in
-    let n = c12 .no-element .ensures in
-    let f = sym (c9 .body-fit .ensures) ∙ c6 .before .enum-told .given .1 in
-    let b = c6 .element-at .ensures in
-    let v = sym (c .before .before .wants-verbose .ensures) ∙ c .before .if2 .taken in
-    c .refuse3 .ensures ∙ unwrap-127 (a .s .now) (a .w) n f b (c3 .before .before .field .ensures) (c3 .before .if1 .left) (c3 .field2 .ensures) v
+passed-requires : tie.Need-passed-requires
+passed-requires c κs = search needs
 
-returns-4 : tie.Need-returns-4
-returns-4 c =
-    let c3 = c .before .before .before in
-    let c6 = c3 .before .before .before in
-    let c10 = c6 .before .before .before .before in
-    let c13 = c10 .before .before .before in
-    let a = c13 .before .before .args in
-    let n = c13 .no-element .ensures in
-    let f = sym (c10 .body-fit .ensures) ∙ c6 .before .before .enum-told .given .1 in
-    let b = c6 .before .element-at .ensures in
-    let v = sym (c3 .wants-verbose .ensures) ∙ c .before .before .if2 .left in
-    unwrap-asks (a .s .now) (a .w) n f b (c6 .field .ensures) (c3 .before .before .if1 .left) (c3 .before .field2 .ensures) v
+returns : tie.Need-returns
+returns c =
+    let r127 = c .before .before .before in
+    let r31 = r127 .before .before in
+    let r36 = r31 .before in
+    let read = r36 .before .before in
+    let a = read .before .before .before .before .before .before .args in
+    c .passed .ensures
+    ∙ unwraps
+    (a .s .now)
+    (a .w)
+    (read .before .before .element-at .ensures)
+    (read .before .field .ensures)
+    (read .field2 .ensures)
+    (r36 .before .body-fit .ensures)
+    (r127 .before .wants-verbose .ensures)
+    (r36 .or-at .ensures)
+    (r31 .or-if .ensures)
+    (r127 .or-ref .ensures)
 
 pub unwrap-spec : {M : Type 1} → statement M
 unwrap-spec =
     tie.close
     (tie.spec
-    no-element-requires
-    body-fit-requires
-    enum-known-o
-    refuse-requires
-    returns
-    enum-told
     element-at-requires
     field-requires
-    refuse-requires-2
-    returns-2
     field-requires-2
+    body-fit-requires
+    or-at-requires
+    or-if-requires
     wants-verbose-requires
-    refuse-requires-3
-    returns-3
-    returns-4)
+    or-ref-requires
+    passed-requires
+    returns)

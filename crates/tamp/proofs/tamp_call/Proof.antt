@@ -1,49 +1,61 @@
 -- `tamp::tamp_call` meets its contract. Assumes nothing.
-use borrow.Author.Tests.{not-true, not-false}
-use Rattle.tamp.proofs.Chain.{call-201, call-202, call-203, call-204, call-given, call-answer}
 use borrow.Author.Needs.{needs}
+use mathlib.Core.Path.{sym, _∙_}
+use Rattle.tamp.proofs.Chain.{Housed, housed, call-refused, call-answer}
 use Rattle.tamp.proofs.tamp_call.Statement.{statement}
 use Rattle.tamp.proofs.tamp_call.Tie as tie
 
+-- the status of the rows 201 to 204
+house : (c : tie.After-or-if4)
+    → let a = c .before .before .before .before .before .before .before .before .before .before .before .before .args in
+    Housed (a .message .now) (a .image .now) (a .verdict .now) (a .reply .now) (a .next .now) (c .or-if4 .result)
+house c =
+    housed
+    _
+    _
+    _
+    _
+    _
+    (c .before .before .before .before .before .before .is-image .ensures)
+    (c .before .before .before .before .is-verdict .ensures)
+    (c .before .before .is-small .ensures)
+    (c .before .before .before .before .before .or-if .ensures)
+    (c .before .before .before .or-if2 .ensures)
+    (c .before .or-if3 .ensures)
+    (c .or-if4 .ensures)
+
 is-image-requires : tie.Need-is-image-requires
 is-image-requires c κs = search needs
+
+or-if-requires : tie.Need-or-if-requires
+or-if-requires c κs = search needs
+
+is-verdict-requires : tie.Need-is-verdict-requires
+is-verdict-requires c κs = search needs
+
+or-if-requires-2 : tie.Need-or-if-requires-2
+or-if-requires-2 c κs = search needs
+
+is-small-requires : tie.Need-is-small-requires
+is-small-requires c κs = search needs
+
+or-if-requires-3 : tie.Need-or-if-requires-3
+or-if-requires-3 c κs = search needs
+
+or-if-requires-4 : tie.Need-or-if-requires-4
+or-if-requires-4 c κs = search needs
+
+refuses-requires : tie.Need-refuses-requires
+refuses-requires c κs = search needs
 
 refusal-requires : tie.Need-refusal-requires
 refusal-requires c κs = search needs
 
 returns : tie.Need-returns
-returns c = let a = c .before .before .before .before .before .before .before .before .args in call-201 (a .message .now) (a .image .now) (a .verdict .now) (a .reply .now) (a .next .now) (c .before .before .is-image .ensures) (not-true _ (c .before .if1 .taken)) (c .refusal .ensures)
-
-is-verdict-requires : tie.Need-is-verdict-requires
-is-verdict-requires c κs = search needs
-
-refusal-requires-2 : tie.Need-refusal-requires-2
-refusal-requires-2 c κs = search needs
-
-returns-2 : tie.Need-returns-2
-returns-2 c = let a = c .before .before .before .before .before .before .before .before .before .before .args in
-    call-202 (a .message .now) (a .image .now) (a .verdict .now) (a .reply .now) (a .next .now) (c .before .before .before .before .is-image .ensures) (not-false _ (c .before .before .before .if1 .left)) (c .before .before .is-verdict .ensures) (not-true _ (c .before .if2 .taken)) (c .refusal2 .ensures)
-
-is-small-requires : tie.Need-is-small-requires
-is-small-requires c κs = search needs
-
-refusal-requires-3 : tie.Need-refusal-requires-3
-refusal-requires-3 c κs = search needs
-
-returns-3 : tie.Need-returns-3
-returns-3 c = let a = c .before .before .before .before .before .before .before .before .before .before .before .before .args in
-    call-203 (a .message .now) (a .image .now) (a .verdict .now) (a .reply .now) (a .next .now) (c .before .before .before .before .before .before .is-image .ensures) (not-false _ (c .before .before .before .before .before .if1 .left)) (c .before .before .before .before .is-verdict .ensures) (not-false _ (c .before .before .before .if2 .left)) (c .before .before .is-small .ensures) (c .before .if3 .taken) (c .refusal3 .ensures)
-
-refusal-requires-4 : tie.Need-refusal-requires-4
-refusal-requires-4 c κs = search needs
-
-returns-4 : tie.Need-returns-4
-returns-4 c = let a = c .before .before .before .before .before .before .before .before .before .before .before .before .before .args in
-    call-204 (a .message .now) (a .image .now) (a .verdict .now) (a .reply .now) (a .next .now) (c .before .before .before .before .before .before .before .is-image .ensures) (not-false _ (c .before .before .before .before .before .before .if1 .left)) (c .before .before .before .before .before .is-verdict .ensures) (not-false _ (c .before .before .before .before .if2 .left)) (c .before .before .before .is-small .ensures) (c .before .before .if3 .left) (c .before .if4 .taken) (c .refusal4 .ensures)
+returns c = call-refused _ _ _ _ _ (house (c .before .before .before)) (sym (c .before .before .refuses .ensures) ∙ c .before .if1 .taken) (c .refusal .ensures)
 
 decide-requires : tie.Need-decide-requires
-decide-requires c κs = let a = c .before .before .before .before .before .before .before .before .before .before .before .before .before .before .args in
-    call-given (a .message .now) (a .image .now) (a .verdict .now) (a .reply .now) (a .next .now) (c .before .before .before .before .before .before .before .before .is-image .ensures) (not-false _ (c .before .before .before .before .before .before .before .if1 .left)) (c .before .before .before .before .before .before .is-verdict .ensures) (not-false _ (c .before .before .before .before .before .if2 .left)) (c .before .before .before .before .is-small .ensures) (c .before .before .before .if3 .left) (c .before .before .if4 .left)
+decide-requires c κs = house (c .before .before .before .before) .passes (sym (c .before .before .before .refuses .ensures) ∙ c .before .before .if1 .left)
 
 same-length : tie.Need-same-length
 same-length c = search needs
@@ -51,27 +63,25 @@ same-length c = search needs
 same-length-2 : tie.Need-same-length-2
 same-length-2 c = search needs
 
-returns-5 : tie.Need-returns-5
-returns-5 c = let a = c .before .before .before .before .before .before .before .before .before .before .before .before .before .before .before .before .before .before .before .args in
-    call-answer (a .message .now) (a .image .now) (a .verdict .now) (a .reply .now) (a .next .now) (c .before .before .before .before .before .before .before .before .before .before .before .before .before .is-image .ensures) (not-false _ (c .before .before .before .before .before .before .before .before .before .before .before .before .if1 .left)) (c .before .before .before .before .before .before .before .before .before .before .before .is-verdict .ensures) (not-false _ (c .before .before .before .before .before .before .before .before .before .before .if2 .left)) (c .before .before .before .before .before .before .before .before .before .is-small .ensures) (c .before .before .before .before .before .before .before .before .if3 .left) (c .before .before .before .before .before .before .before .if4 .left)
-    (c .before .before .before .before .decide .ensures)
+returns-2 : tie.Need-returns-2
+returns-2 c =
+    call-answer _ _ _ _ _ (house (c .before .before .before .before .before .before .before .before .before)) (sym (c .before .before .before .before .before .before .before .before .refuses .ensures) ∙ c .before .before .before .before .before .before .before .if1 .left) (c .before .before .before .before .decide .ensures)
 
 pub tamp-call-spec : {M : Type 1} → statement M
 tamp-call-spec =
     tie.close
     (tie.spec
     is-image-requires
+    or-if-requires
+    is-verdict-requires
+    or-if-requires-2
+    is-small-requires
+    or-if-requires-3
+    or-if-requires-4
+    refuses-requires
     refusal-requires
     returns
-    is-verdict-requires
-    refusal-requires-2
-    returns-2
-    is-small-requires
-    refusal-requires-3
-    returns-3
-    refusal-requires-4
-    returns-4
     decide-requires
     same-length
     same-length-2
-    returns-5)
+    returns-2)

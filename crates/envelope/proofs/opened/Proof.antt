@@ -1,0 +1,22 @@
+-- `envelope::opened` meets its contract. Assumes nothing.
+use borrow.Author.Needs.{needs}
+use Rattle.envelope.specs.Given.{givenFirst}
+use Rattle.envelope.proofs.opened.Statement.{statement}
+use Rattle.envelope.proofs.opened.Tie as tie
+
+enum-known-given : tie.Need-enum-known-given
+enum-known-given c = search needs
+
+enum-told : tie.Need-enum-told
+enum-told c = search needs
+
+returns : tie.Need-returns
+unfolding givenFirst
+returns c = rw (c .before .given .given .1)
+
+returns-2 : tie.Need-returns-2
+unfolding givenFirst
+returns-2 c = rw (c .enum-told .given .1)
+
+pub opened-spec : {M : Type 1} → statement M
+opened-spec = tie.close (tie.spec enum-known-given enum-told returns returns-2)
