@@ -333,18 +333,21 @@ pub fn spans(s: &[u8], at: usize, stop: usize, outer: usize, depth: usize) -> Fi
     Fit::Fits
 }
 
-// The first element with the tag in the run from at up to stop.
+// The first element with the tag in the run from at up to stop. One whose header breaks a rule is the last, and has the tag 0.
 pub fn with_tag(s: &[u8], at: usize, stop: usize, tag: u8) -> Element
     ensures { λ r. ⌜ r ≡ withTag tag (elements (now (s .entry)) at stop) ⌝ }
 {
     let mut i = at;
     while i < stop {
         let e = element_at(s, i, stop);
+        if !e.good {
+            if tag == 0 {
+                return e;
+            }
+            return no_element(0);
+        }
         if e.tag == tag {
             return e;
-        }
-        if !e.good {
-            return no_element(0);
         }
         i = e.stop;
     }
