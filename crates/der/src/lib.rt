@@ -1,7 +1,7 @@
 // DER as 01 profiles it (X.690).
 ghost use mathlib.Core.Path.{_≡_};
 ghost use Prim.Native.Nat.{_+_, _≤_, _<_};
-ghost use mathlib.Core.Bool.{_&&_};
+ghost use mathlib.Core.Bool.{true, _&&_};
 ghost use lib.ListN.{length};
 ghost use lib.Dec.{eqb};
 ghost use Rattle.octets.specs.Octets.{octet, placed};
@@ -251,14 +251,14 @@ pub fn is_constructed(tag: u8) -> bool
     tag / 32 % 2 == 1
 }
 
-// The rule of a primitive element's contents.
-fn check_contents(s: &[u8], e: Element) -> Fit
-    ensures { λ r. ⌜ r ≡ held (e .at) (contentsOk (e .tag) (contentsOf (now (s .entry)) e)) ⌝ }
+// A test, whose break is charged to the element at a place.
+fn hold(at: usize, ok: bool) -> Fit
+    ensures { λ r. ⌜ r ≡ held at ok ⌝ }
 {
-    if contents_ok(e.tag, contents(s, e)) {
+    if ok {
         return Fit::Fits;
     }
-    Fit::Breaks(e.at)
+    Fit::Breaks(at)
 }
 
 // In a SET: the member e stands in order behind the one before it.
@@ -284,7 +284,21 @@ pub fn check_element(s: &[u8], e: Element, depth: usize) -> Fit
     if is_constructed(e.tag) {
         return check_run(s, e, depth - 1);
     }
-    check_contents(s, e)
+    hold(e.at, contents_ok(e.tag, contents(s, e)))
+}
+
+// As check_element, of a good element in a run, with no recursive call where it is primitive: every second one is.
+fn check_member(s: &[u8], e: Element, depth: usize) -> Fit
+    requires { ⌜ e .good ≡ true ⌝ }
+    ensures { λ r. ⌜ r ≡ der depth (now (s .entry)) e ⌝ }
+{
+    if is_constructed(e.tag) {
+        return check_element(s, e, depth);
+    }
+    if depth == 0 {
+        return Fit::Breaks(e.at);
+    }
+    hold(e.at, contents_ok(e.tag, contents(s, e)))
 }
 
 // The run of elements inside a constructed one fills it; each has this depth left for it, and in a SET stands in order. Before the first stands none,
@@ -303,7 +317,7 @@ pub fn check_run(s: &[u8], outer: Element, depth: usize) -> Fit
         if !e.good {
             return Fit::Breaks(e.at);
         }
-        if let Fit::Breaks(o) = check_element(s, e, depth) {
+        if let Fit::Breaks(o) = check_member(s, e, depth) {
             return Fit::Breaks(o);
         }
         if !is_sorted(s, outer, former, e) {
