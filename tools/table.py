@@ -192,7 +192,7 @@ def main():
         return re.sub(r'(?<=[a-z])(?=[A-Z])|(?<=[A-Z])(?=[A-Z][a-z])', '_', name.split('.')[-1]).upper()
 
     rt = [f'// {note}', "// A row is four octets: kind, tag or argument, body's row, next row. specs/Rows.antt says what a row stands for.",
-          f'pub const ROWS: [u8; {4 * count}] = [']
+          f'pub type Table = [u8; {4 * count}];', '', 'pub const ROWS: Table = [']
     for n, row in enumerate(table.rows):
         rt.append(f'    // {table.comment(n)}')
         rt += [f'    {x},' for x in shown(row)]

@@ -184,6 +184,16 @@ fn occurs(s: &[u8], at: usize, stop: usize, by: Compared, k: &[u8]) -> bool
     false
 }
 
+// Whether a member of the run from at up to stop has the key of e, which is looked for only where the run has a member.
+fn recurs(s: &[u8], e: Element, at: usize, stop: usize, by: Compared) -> bool
+    ensures { λ r. ⌜ r ≡ anyOf (hasKey (keyOf by (now (s .entry)) e) by (now (s .entry))) (elements (now (s .entry)) at stop) ⌝ }
+{
+    if stop <= at {
+        return false;
+    }
+    occurs(s, at, stop, by, key(s, e, by))
+}
+
 // No two members of the element `outer` have equal keys.
 fn is_distinct(s: &[u8], outer: Element, by: Compared) -> bool
     ensures { λ r. ⌜ r ≡ distinct (map (keyOf by (now (s .entry))) (inside (now (s .entry)) outer)) ⌝ }
@@ -193,7 +203,7 @@ fn is_distinct(s: &[u8], outer: Element, by: Compared) -> bool
     while i < stop {
         let e = der::element_at(s, i, stop);
         let behind = next(e, stop);
-        if occurs(s, behind, stop, by, key(s, e, by)) {
+        if recurs(s, e, behind, stop, by) {
             return false;
         }
         i = behind;

@@ -1,9 +1,9 @@
 -- `der`, `sortedIn` and `spans`, one way through their tests at a time.
 use Prim.Native.Nat.{ℕ, zero, suc, _-_, _≤_, _<_}
 use native.Mathlib.Omega.{arith}
-use mathlib.Core.Bool.{true, false}
+use mathlib.Core.Bool.{Bool, true, false}
 use mathlib.Core.List.{List, [], _∷_}
-use mathlib.Core.Path.{_≡_, refl, _∙_}
+use mathlib.Core.Path.{_≡_, refl, sym, ap, _∙_}
 use lib.Dec.{eqb}
 use borrow.Author.Tests.{lt-ltb, le-ltb, eq-eqb, ne-eqb}
 use Rattle.octets.specs.Octets.{ordered}
@@ -72,7 +72,7 @@ module _ (s : List ℕ) (e : Element) where
       (held (e .at) (contentsOk (e .tag) (contents s e)))
       k)
 
-  pub der-leaf : (d : ℕ) → (d ≡ 0 → ⊥) → e .good ≡ true → constructed (e .tag) ≡ false
+  der-leaf : (d : ℕ) → (d ≡ 0 → ⊥) → e .good ≡ true → constructed (e .tag) ≡ false
       → der d s e ≡ held (e .at) (contentsOk (e .tag) (contents s e))
   unfolding der opened
   der-leaf zero n g k = absurd (n refl)
@@ -83,6 +83,11 @@ module _ (s : List ℕ) (e : Element) where
       (each (memberFit d s e) (inside s e))
       (held (e .at) (contentsOk (e .tag) (contents s e)))
       k
+
+  -- a primitive element: what comes of the test of its contents o
+  pub der-held : (d : ℕ) → (d ≡ 0 → ⊥) → e .good ≡ true → constructed (e .tag) ≡ false → {o : List ℕ} {ok : Bool} {r : Fit}
+      → r ≡ held (e .at) ok → ok ≡ contentsOk (e .tag) o → o ≡ contents s e → r ≡ der d s e
+  der-held d n g k h p q = h ∙ ap (held (e .at)) (p ∙ ap (contentsOk (e .tag)) q) ∙ sym (der-leaf d n g k)
 
 module _ (d : ℕ) (s : List ℕ) (at stop outer : ℕ) where
   pub spans-none : stop ≤ at → spans d s at stop outer ≡ Breaks outer

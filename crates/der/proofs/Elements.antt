@@ -43,6 +43,12 @@ module _ (s : List ℕ) (at stop : ℕ) {e : Element} (q : e ≡ elementAt s at 
       (λ h. rw (q ∙ element-is s at stop h) (record { here = refl; opens = omega arith; closes = omega arith; ends = λ l. h .ends }))
       (λ n. rw (q ∙ element-absent s at stop n) (record { here = refl; opens = omega arith; closes = omega arith; ends = λ l. l }))
 
+  pub bad-tag : e .good ≡ false → e .tag ≡ 0
+  bad-tag g =
+      header-or-not s at stop
+      (λ h. absurd (true≢false (sym (ap (λ (x : Element). x .good) (q ∙ element-is s at stop h)) ∙ g)))
+      (λ n. ap (λ (x : Element). x .tag) (q ∙ element-absent s at stop n))
+
 -- the elements of a run, with enough of the number that bounds them
 
 from-end : (n : ℕ) (s : List ℕ) (at stop : ℕ) → stop ≤ at → elementsFrom n s at stop ≡ []

@@ -1,5 +1,5 @@
 -- A header's rules as facts, and what `elementAt` is where they hold and where one breaks. Only this file and Elements open `elementAt`.
-use Prim.Native.Nat.{ℕ, suc, _+_, _-_, _*_, _%_, _≤_, _<_}
+use Prim.Native.Nat.{ℕ, suc, _+_, _-_, _*_, _/_, _%_, _≤_, _<_}
 use native.Mathlib.Numerals.{add-one}
 use native.Mathlib.Omega.{arith}
 use mathlib.Core.Bool.{true, false, not, and-eq-true-iff, true≢false}
@@ -8,12 +8,14 @@ use mathlib.Core.Path.{_≡_, refl, sym, ap, _∙_}
 use lib.ListN.{length}
 use lib.Seq.{drop-cons}
 use lib.Dec.{ltb, leb, eqb}
-use borrow.Author.Tests.{ltb-true, ltb-false, leb-true, eqb-false, not-true, lt-ltb, le-ltb, le-leb, eq-eqb, ne-eqb}
+use borrow.Author.Tests.{ltb-true, ltb-false, leb-true, leb-false, eqb-false, not-true, lt-ltb, le-ltb, le-leb, lt-leb, eq-eqb, ne-eqb}
 use Rattle.octets.specs.Octets.{octet, part}
 use Rattle.octets.specs.Number.{numberFrom}
 use Rattle.octets.proofs.Lists.{by-test, both}
 use Rattle.octets.proofs.Parts.{part-none}
-use Rattle.der.specs.Element.{absent, lengthAt, lengthShortest, contentsAt, headed, elementAt}
+use Rattle.octets.proofs.Number.{number-grows}
+use Rattle.der.specs.declared.Length.the-variants.{Of, Beyond}
+use Rattle.der.specs.Element.{absent, lengthOctetsBehind, lengthAt, lengthShortest, contentsAt, lengthIn, headed, elementAt}
 use Rattle.der.proofs.Bools.{and-false}
 
 pub record Header (s : List ℕ) (at stop : ℕ) : Type 0 where
@@ -87,6 +89,100 @@ part-turn s i e n l h =
     let q : e - i ≡ suc (e - (i + 1)) = omega arith in
     let m : i < length s = omega arith in
     rw (q, drop-cons s i 0 m, add-one)
+
+-- the length octets read up to i: none yet, or the first and some behind it
+pub record ReadTo (s : List ℕ) (at stop start n i : ℕ) : Type 0 where
+  pub from : at + 1 ≤ i
+  pub upto : i ≤ start
+  pub begins : at + 2 ≤ start
+  pub ends : start ≤ stop
+  pub none : i ≡ at + 1 → (start ≡ at + 2) × (n ≡ 0)
+  pub some : at + 1 < i → (start ≡ contentsAt s at) × (numberFrom n (part s i start) ≡ lengthAt s at)
+
+module _ (s : List ℕ) (at stop : ℕ) where
+  pub read-none : at + 2 ≤ stop → ReadTo s at stop (at + 2) 0 (at + 1)
+  read-none l =
+      record {
+        from = omega arith;
+        upto = omega arith;
+        begins = omega arith;
+        ends = l;
+        none = λ e. (refl, refl);
+        some = λ m. absurd (omega arith);
+      }
+
+  -- the first octet is the length, or says where the contents begin
+  pub read-first : {start n i : ℕ} → i ≡ at + 1 → (octet s i < 128 → n ≡ octet s i) → (128 ≤ octet s i → n ≡ 0)
+      → start ≡ at + 2 + lengthOctetsBehind (octet s i) → start ≤ stop → ReadTo s at stop start n (i + 1)
+  read-first {start} {n} {i} f short long e l =
+      let p : i + 1 ≡ at + 2 = omega arith in
+      let b : start ≡ contentsAt s at = rw f at e in
+      record {
+        from = omega arith;
+        upto = omega arith;
+        begins = omega arith;
+        ends = l;
+        none = λ m. absurd (omega arith);
+        some = λ m. (b, rw (b, p) (length-from s at n (rw f at short) (rw f at long)));
+      }
+
+  module _ (inside : stop ≤ length s) {start n i : ℕ} (r : ReadTo s at stop start n i) where
+    pub read-digit : (i ≡ at + 1 → ⊥) → i < start → ReadTo s at stop start (n * 256 + octet s i) (i + 1)
+    read-digit f l =
+        let m : at + 1 < i = omega arith in
+        record {
+          from = omega arith;
+          upto = omega arith;
+          begins = r .begins;
+          ends = r .ends;
+          none = λ e. absurd (omega arith);
+          some = λ k. (r .some m .0, sym (part-turn s i start n l (omega arith)) ∙ r .some m .1);
+        }
+
+    -- a digit more, and the length would pass the window's end
+    pub read-beyond : (i ≡ at + 1 → ⊥) → i < start → (stop - start) / 256 < n → stop < contentsAt s at + lengthAt s at
+    read-beyond f l w =
+        let m : at + 1 < i = omega arith in
+        omega (
+          arith,
+          r .some m .0,
+          r .some m .1,
+          part-turn s i start n l (omega arith),
+          number-grows (n * 256 + octet s i) (part s (i + 1) start),
+        )
+
+    pub read-all : start ≤ i → (start ≡ contentsAt s at) × (n ≡ lengthAt s at)
+    unfolding numberFrom
+    read-all l =
+        let m : at + 1 < i = omega arith in
+        (r .some m .0, sym (ap (numberFrom n) (part-none s i start l)) ∙ r .some m .1)
+
+-- what the length octets say in a window
+
+module _ (s : List ℕ) (at stop : ℕ) where
+  pub length-beyond : stop < contentsAt s at + lengthAt s at → lengthIn s at stop ≡ Beyond
+  unfolding lengthIn
+  length-beyond l = rw (lt-leb _ _ l, lengthIn)
+
+  pub length-of : contentsAt s at + lengthAt s at ≤ stop → lengthIn s at stop ≡ Of (contentsAt s at) (lengthAt s at)
+  unfolding lengthIn
+  length-of l = rw (le-leb _ _ l, lengthIn)
+
+  pub beyond-ends : lengthIn s at stop ≡ Beyond → stop < contentsAt s at + lengthAt s at
+  beyond-ends e =
+      by-test (leb (contentsAt s at + lengthAt s at) stop)
+      (λ t. let z : _≡_ {A = ℕ} 0 1 = cc (length-of (leb-true (contentsAt s at + lengthAt s at) stop t)) in absurd (omega arith))
+      (λ t. leb-false (contentsAt s at + lengthAt s at) stop t)
+
+  pub of-ends : {start n : ℕ} → lengthIn s at stop ≡ Of start n → (start ≡ contentsAt s at) × ((n ≡ lengthAt s at) × (start + n ≤ stop))
+  of-ends {start} {n} e =
+      by-test (leb (contentsAt s at + lengthAt s at) stop)
+      (λ t.
+      let l = leb-true (contentsAt s at + lengthAt s at) stop t in
+      let b : start ≡ contentsAt s at = cc (length-of l) in
+      let m : n ≡ lengthAt s at = cc (length-of l) in
+      (b, (m, omega arith)))
+      (λ t. let z : _≡_ {A = ℕ} 0 1 = cc (length-beyond (leb-false (contentsAt s at + lengthAt s at) stop t)) in absurd (omega arith))
 
 -- shortest or not, by the octets
 

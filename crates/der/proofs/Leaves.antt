@@ -1,5 +1,5 @@
 -- The rules of contents, by the octets that the code looks at.
-use Prim.Native.Nat.{ℕ, _+_, _≤_, _<_}
+use Prim.Native.Nat.{ℕ, _+_, _-_, _≤_, _<_}
 use native.Mathlib.Numerals.{add-one}
 use native.Mathlib.Omega.{arith}
 use mathlib.Core.Bool.{Bool, true, false, not, _&&_}
@@ -13,7 +13,7 @@ use Rattle.octets.specs.Octets.{octet, same}
 use Rattle.octets.proofs.Lists.{by-test}
 use Rattle.octets.proofs.Compare.{same-lengths}
 use Rattle.der.proofs.Bools.{and-true}
-use Rattle.der.specs.Contents.{integerOk, booleanOk, arcsOk, oidOk, contentsOk}
+use Rattle.der.specs.Contents.{integerOk, booleanOk, arcsOk, arcBegins, oidOk, contentsOk}
 
 -- INTEGER
 
@@ -90,18 +90,27 @@ unfolding oidOk
 oid-arcs [] n = absurd (n refl)
 oid-arcs (x ∷ o) n = refl
 
-module _ (o : List ℕ) (i : ℕ) (fresh : Bool) where
-  pub arcs-end : length o ≤ i → arcsOk fresh (drop i o) ≡ fresh
+module _ (o : List ℕ) (i : ℕ) where
+  -- the octets end, and the last arc with them
+  pub arcs-end : (length o ≡ 0 → ⊥) → i ≡ length o → arcsOk (arcBegins o i) (drop i o) ≡ ltb (octet o (length o - 1)) 128
   unfolding arcsOk
-  arcs-end h = rw (drop-of-length-le o h)
+  arcs-end n e =
+      let l : length o ≤ i = omega arith in
+      let z : i ≡ 0 → ⊥ = λ k. omega arith in
+      rw (drop-of-length-le o l, ne-eqb i 0 z, e)
 
-  pub arcs-padded : i < length o → fresh && eqb (octet o i) 128 ≡ true → arcsOk fresh (drop i o) ≡ false
+  pub arcs-padded : i < length o → arcBegins o i && eqb (octet o i) 128 ≡ true → arcsOk (arcBegins o i) (drop i o) ≡ false
   unfolding arcsOk
   arcs-padded l e = rw (drop-cons o i 0 l, e)
 
-  pub arcs-turn : i < length o → fresh && eqb (octet o i) 128 ≡ false → arcsOk fresh (drop i o) ≡ arcsOk (ltb (octet o i) 128) (drop (i + 1) o)
+  pub arcs-turn : i < length o → arcBegins o i && eqb (octet o i) 128 ≡ false
+      → arcsOk (arcBegins o i) (drop i o) ≡ arcsOk (arcBegins o (i + 1)) (drop (i + 1) o)
   unfolding arcsOk
-  arcs-turn l e = rw (add-one, drop-cons o i 0 l, e)
+  arcs-turn l e =
+      let z : i + 1 ≡ 0 → ⊥ = λ k. omega arith in
+      let p : i + 1 - 1 ≡ i = omega arith in
+      let b : arcBegins o (i + 1) ≡ ltb (octet o i) 128 = rw (ne-eqb (i + 1) 0 z, p) in
+      rw (b, add-one, drop-cons o i 0 l, e)
 
 -- the rule of a tag
 

@@ -1,9 +1,9 @@
 -- 01, DER: what the contents of primitive types must be.
-use Prim.Native.Nat.{ℕ}
+use Prim.Native.Nat.{ℕ, _-_}
 use mathlib.Core.Bool.{Bool, true, false, not, _&&_, _||_}
 use mathlib.Core.List.{List, [], _∷_}
 use lib.Dec.{ltb, leb, eqb}
-use Rattle.octets.specs.Octets.{same}
+use Rattle.octets.specs.Octets.{octet, same}
 
 -- INTEGER and ENUMERATED: not empty and shortest (X.690, 8.3.2: the first nine bits are not all equal)
 unfoldable pub integerOk : List ℕ → Bool
@@ -19,6 +19,10 @@ booleanOk o = same o (0 ∷ []) || same o (255 ∷ [])
 unfoldable pub arcsOk : Bool → List ℕ → Bool
 arcsOk fresh [] = fresh
 arcsOk fresh (x ∷ s) = not (fresh && eqb x 128) && arcsOk (ltb x 128) s
+
+-- an arc begins at the octet i: the first does, and one behind the last octet of another
+abbrev pub arcBegins : List ℕ → ℕ → Bool
+arcBegins o i = eqb i 0 || ltb (octet o (i - 1)) 128
 
 -- OID: not empty, each arc shortest
 unfoldable pub oidOk : List ℕ → Bool

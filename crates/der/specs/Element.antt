@@ -8,6 +8,8 @@ use lib.Dec.{leb, ltb, eqb}
 use Rattle.octets.specs.Octets.{octet, part}
 use Rattle.octets.specs.Number.{number}
 use Rattle.der.specs.declared.Element.{Element}
+use Rattle.der.specs.declared.Length.{Length}
+use Rattle.der.specs.declared.Length.the-variants.{Of, Beyond}
 
 -- no element: what stands at a place where the header breaks a rule, and (at 0) what a search gives that finds nothing
 abbrev pub absent : ℕ → Element
@@ -32,6 +34,11 @@ lengthShortest s at = ltb (octet s (at + 1)) 128 || (not (eqb (octet s (at + 2))
 -- where the contents begin
 abbrev pub contentsAt : List ℕ → ℕ → ℕ
 contentsAt s at = at + 2 + lengthOctetsBehind (octet s (at + 1))
+
+-- where the contents begin and how many octets they are, unless they pass the window's end
+unfoldable pub lengthIn : List ℕ → ℕ → ℕ → Length
+lengthIn s at stop =
+    elim (leb (contentsAt s at + lengthAt s at) stop) [ true ↦ Of (contentsAt s at) (lengthAt s at) | false ↦ Beyond ]
 
 -- a header stands at `at`, and its element ends in the window: the window is inside the octets, the tag is one octet (01, DER: "Tags are one octet"),
 -- the length is shortest, and nothing passes the window's end

@@ -1,16 +1,16 @@
 // DER as 01 profiles it (X.690).
 ghost use mathlib.Core.Path.{_≡_};
-ghost use Prim.Native.Nat.{_+_, _≤_, _<_, min};
-ghost use mathlib.Core.Bool.{_&&_};
+ghost use Prim.Native.Nat.{_+_, _≤_, _<_};
+ghost use mathlib.Core.Bool.{true, _&&_};
 ghost use lib.ListN.{length};
 ghost use lib.Dec.{eqb};
-ghost use Rattle.octets.specs.Octets.{placed};
+ghost use Rattle.octets.specs.Octets.{octet, placed};
 ghost use Rattle.der.specs.Element.{
   absent,
-  lengthOctetsBehind,
   lengthAt,
   lengthShortest,
   contentsAt,
+  lengthIn,
   elementAt,
   elements,
   whole as wholeOf,
@@ -22,7 +22,7 @@ ghost use Rattle.der.specs.Element.{
   fieldBehind,
 };
 ghost use Rattle.der.specs.Fit.{andThen, held, each};
-ghost use Rattle.der.specs.Contents.{integerOk, booleanOk, oidOk, contentsOk};
+ghost use Rattle.der.specs.Contents.{integerOk, booleanOk, arcBegins, oidOk, contentsOk};
 ghost use Rattle.der.specs.Check.{sortedIn, der, spans as spansOf};
 ghost use Rattle.der.specs.Write.{lengthOctets, header};
 
@@ -34,6 +34,12 @@ pub struct Element {
     pub at: usize,
     pub start: usize,
     pub stop: usize,
+}
+
+// What the length octets of an element say: where its contents begin and how many octets they are, or that they pass the window's end.
+enum Length {
+    Of(usize, usize),
+    Beyond,
 }
 
 // Whether octets keep a rule; if not, the offset of the element that breaks it.
@@ -60,42 +66,38 @@ fn wide(x: u8) -> usize
     x as usize
 }
 
-// How many length octets stand behind the first.
-fn octets_behind(first: u8) -> usize
-    ensures { λ r. ⌜ r ≡ lengthOctetsBehind first ⌝ }
+// The length octets of the element at a place, all of them in one loop: the first is the length or says how many stand behind it, each of those is a digit
+// of the length. The loop stops before a length that passes the window's end could wrap.
+fn length_at(s: &[u8], at: usize, stop: usize) -> Length
+    requires { ⌜ (at + 2 ≤ stop) × (stop ≤ length (now s)) ⌝ }
+    ensures { λ r. ⌜ r ≡ lengthIn (now (s .entry)) at stop ⌝ }
 {
-    if first < 128 {
-        return 0;
-    }
-    wide(first) - 128
-}
-
-// What the first length octet gives of the length: all of it in the short form, nothing in the long one.
-fn short_length(first: u8) -> usize
-    ensures { λ r. ⌜ ((first < 128 → r ≡ first) × (128 ≤ first → r ≡ 0)) ⌝ }
-{
-    if first < 128 {
-        return wide(first);
-    }
-    0
-}
-
-// The length that the length octets write, where the contents begin at start and there is room for some octets behind it. One that is too large for the room
-// comes out as some number above it: the loop stops before it could wrap.
-fn length_at(s: &[u8], at: usize, start: usize, room: usize) -> usize
-    requires { ⌜ (start ≡ contentsAt (now s) at) × (start + room ≤ length (now s)) ⌝ }
-    ensures { λ r. ⌜ min r (room + 1) ≡ min (lengthAt (now (s .entry)) at) (room + 1) ⌝ }
-{
-    let mut n = short_length(s[at + 1]);
-    let mut i = at + 2;
+    let mut start = at + 2;
+    let mut n = 0;
+    let mut i = at + 1;
     while i < start {
-        if room / 256 < n {
-            return room + 1;
+        let x = wide(s[i]);
+        if i == at + 1 {
+            if x < 128 {
+                n = x;
+            } else {
+                if stop - start < x - 128 {
+                    return Length::Beyond;
+                }
+                start += x - 128;
+            }
+        } else {
+            if (stop - start) / 256 < n {
+                return Length::Beyond;
+            }
+            n = n * 256 + x;
         }
-        n = n * 256 + wide(s[i]);
         i += 1;
     }
-    n
+    if stop - start < n {
+        return Length::Beyond;
+    }
+    Length::Of(start, n)
 }
 
 // The length n is written in the shortest way: 81 7F is wrong, 81 80 right.
@@ -133,15 +135,9 @@ pub fn element_at(s: &[u8], at: usize, stop: usize) -> Element
     if tag % 32 == 31 {
         return no_element(at);
     }
-    let more = octets_behind(s[at + 1]);
-    if stop - at - 2 < more {
+    let Length::Of(start, n) = length_at(s, at, stop) else {
         return no_element(at);
-    }
-    let start = at + 2 + more;
-    let n = length_at(s, at, start, stop - start);
-    if stop - start < n {
-        return no_element(at);
-    }
+    };
     if !is_shortest(s, at, n) {
         return no_element(at);
     }
@@ -186,14 +182,18 @@ pub fn is_boolean(o: &[u8]) -> bool
     o[0] == 255
 }
 
-// An arc that begins with 80 is not shortest.
-fn is_padding(fresh: bool, x: u8) -> bool
-    ensures { λ r. ⌜ r ≡ fresh && eqb x 128 ⌝ }
+// An arc that begins with 80 is not shortest. One begins at the first octet, and behind the last octet of another.
+fn is_padding(o: &[u8], i: usize) -> bool
+    requires { ⌜ i < length (now o) ⌝ }
+    ensures { λ r. ⌜ r ≡ arcBegins (now (o .entry)) i && eqb (octet (now (o .entry)) i) 128 ⌝ }
 {
-    if fresh {
-        return x == 128;
+    if o[i] != 128 {
+        return false;
     }
-    false
+    if i == 0 {
+        return true;
+    }
+    o[i - 1] < 128
 }
 
 // OID: not empty, each arc shortest; an arc's last octet is below 80.
@@ -203,17 +203,14 @@ pub fn is_oid(o: &[u8]) -> bool
     if o.len() == 0 {
         return false;
     }
-    let mut fresh = true;
     let mut i = 0;
     while i < o.len() {
-        let x = o[i];
-        if is_padding(fresh, x) {
+        if is_padding(o, i) {
             return false;
         }
-        fresh = x < 128;
         i += 1;
     }
-    fresh
+    o[o.len() - 1] < 128
 }
 
 // What the contents o of a primitive element with this tag must be.
@@ -254,14 +251,14 @@ pub fn is_constructed(tag: u8) -> bool
     tag / 32 % 2 == 1
 }
 
-// The rule of a primitive element's contents.
-fn check_contents(s: &[u8], e: Element) -> Fit
-    ensures { λ r. ⌜ r ≡ held (e .at) (contentsOk (e .tag) (contentsOf (now (s .entry)) e)) ⌝ }
+// A test, whose break is charged to the element at a place.
+fn hold(at: usize, ok: bool) -> Fit
+    ensures { λ r. ⌜ r ≡ held at ok ⌝ }
 {
-    if contents_ok(e.tag, contents(s, e)) {
+    if ok {
         return Fit::Fits;
     }
-    Fit::Breaks(e.at)
+    Fit::Breaks(at)
 }
 
 // In a SET: the member e stands in order behind the one before it.
@@ -287,7 +284,21 @@ pub fn check_element(s: &[u8], e: Element, depth: usize) -> Fit
     if is_constructed(e.tag) {
         return check_run(s, e, depth - 1);
     }
-    check_contents(s, e)
+    hold(e.at, contents_ok(e.tag, contents(s, e)))
+}
+
+// As check_element, of a good element in a run, with no recursive call where it is primitive: every second one is.
+fn check_member(s: &[u8], e: Element, depth: usize) -> Fit
+    requires { ⌜ e .good ≡ true ⌝ }
+    ensures { λ r. ⌜ r ≡ der depth (now (s .entry)) e ⌝ }
+{
+    if is_constructed(e.tag) {
+        return check_element(s, e, depth);
+    }
+    if depth == 0 {
+        return Fit::Breaks(e.at);
+    }
+    hold(e.at, contents_ok(e.tag, contents(s, e)))
 }
 
 // The run of elements inside a constructed one fills it; each has this depth left for it, and in a SET stands in order. Before the first stands none,
@@ -306,7 +317,7 @@ pub fn check_run(s: &[u8], outer: Element, depth: usize) -> Fit
         if !e.good {
             return Fit::Breaks(e.at);
         }
-        if let Fit::Breaks(o) = check_element(s, e, depth) {
+        if let Fit::Breaks(o) = check_member(s, e, depth) {
             return Fit::Breaks(o);
         }
         if !is_sorted(s, outer, former, e) {
@@ -336,18 +347,21 @@ pub fn spans(s: &[u8], at: usize, stop: usize, outer: usize, depth: usize) -> Fi
     Fit::Fits
 }
 
-// The first element with the tag in the run from at up to stop.
+// The first element with the tag in the run from at up to stop. One whose header breaks a rule is the last, and has the tag 0.
 pub fn with_tag(s: &[u8], at: usize, stop: usize, tag: u8) -> Element
     ensures { λ r. ⌜ r ≡ withTag tag (elements (now (s .entry)) at stop) ⌝ }
 {
     let mut i = at;
     while i < stop {
         let e = element_at(s, i, stop);
+        if !e.good {
+            if tag == 0 {
+                return e;
+            }
+            return no_element(0);
+        }
         if e.tag == tag {
             return e;
-        }
-        if !e.good {
-            return no_element(0);
         }
         i = e.stop;
     }

@@ -7,8 +7,8 @@ use mathlib.Core.Option.{Option, none, some, Option·none-ne-some, Option·some-
 use mathlib.Core.Path.{_≡_, refl, sym, ap, ap₂, _∙_}
 use lib.ListN.{length, take, drop, drop-of-length-le}
 use lib.Seq.{drop-cons}
-use lib.Dec.{leb, ltb}
-use borrow.Author.Tests.{leb-true, leb-false, ltb-true, ltb-false, le-leb, lt-leb, eq-eqb, ne-eqb}
+use lib.Dec.{leb, ltb, eqb}
+use borrow.Author.Tests.{leb-true, leb-false, ltb-true, ltb-false, le-leb, lt-leb, eq-eqb, ne-eqb, eqb-true, eqb-false}
 use Rattle.octets.specs.Limits.{maxName, maxAnchors, maxAnchorOctets}
 use Rattle.octets.specs.Lists.{anyOf, distinctBy}
 use Rattle.octets.specs.Octets.{octet, part, member, distinct}
@@ -320,11 +320,15 @@ module _ (s : List ℕ) (q left : ℕ) where
     pub keys-fresh : isAt r ≡ false → distinct (keysFrom left q) ≡ distinct (keysFrom (left - 1) e)
     keys-fresh m = keys-left h ∙ fresh _ _ (sym asked ∙ m) ∙ sym (ap distinct keys-later)
 
-  pub keys-end : left ≤ 0 → distinct (keysFrom left q) ≡ true
-  unfolding distinct distinctBy recordsFrom
+  pub keys-end : left ≤ 1 → distinct (keysFrom left q) ≡ true
+  unfolding distinct distinctBy anyOf recordsFrom
   keys-end h =
-      let e : left ≡ 0 = omega arith in
-      rw e
+      by-test (eqb left 0)
+      (λ t. rw (eqb-true left 0 t))
+      (λ t.
+      let n = eqb-false left 0 t in
+      let e : left - 1 ≡ 0 = omega arith in
+      keys-left (omega arith) ∙ rw e)
 
 -- the three sections, and nothing behind them
 

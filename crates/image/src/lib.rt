@@ -130,13 +130,13 @@ fn anchors_stop(s: &[u8], p: usize, n: usize) -> Stop
     Stop::Behind(q)
 }
 
-// No two of the n records from place p on have equal public keys.
+// No two of the n records from place p on have equal public keys. The last has none behind it to differ from.
 fn keys_differ(s: &[u8], p: usize, n: usize) -> bool
     ensures { λ r. ⌜ r ≡ distinct (map publicKeyIn (recordsFrom n (drop p (now (s .entry))))) ⌝ }
 {
     let mut q = p;
     let mut left = n;
-    while 0 < left {
+    while 1 < left {
         let key = anchor::public_key(store::info_of(store::record_at(s, q)));
         q = store::record_end(s, q);
         left -= 1;

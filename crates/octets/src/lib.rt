@@ -180,16 +180,16 @@ pub fn part(s: &[u8], a: usize, e: usize) -> &[u8]
     ensures { λ r. ⌜ now r ≡ partOf (now (s .entry)) a e ⌝ }
 {
     let n = s.len();
-    if n <= a {
+    if e <= n {
+        if a < e {
+            return &s[a..e];
+        }
         return &s[n..n];
     }
-    if e <= a {
-        return &s[n..n];
-    }
-    if n <= e {
+    if a < n {
         return &s[a..n];
     }
-    &s[a..e]
+    &s[n..n]
 }
 
 // Writes src into dst from place at on.

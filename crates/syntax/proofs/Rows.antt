@@ -1,10 +1,9 @@
 -- The table's rows: each names only rows above it, by one test over all of them, so a row stands for what its kind makes of the rows that it names.
-use Prim.Native.Nat.{ℕ, zero, suc, _-_, _*_, _≤_, _<_}
+use Prim.Native.Nat.{ℕ, zero, suc, _-_, _≤_, _<_}
 use native.Mathlib.Omega.{arith}
 use mathlib.Core.Bool.{Bool, true, _&&_, and-eq-true-iff}
 use mathlib.Core.List.{List}
 use mathlib.Core.Path.{_≡_, refl, sym, ap, ap₂, _∙_}
-use lib.ListN.{length}
 use lib.Dec.{leb, eqb}
 use borrow.Author.Tests.{leb-true, eqb-true, eqb-false}
 use Rattle.octets.proofs.Lists.{by-test}
@@ -26,10 +25,6 @@ every-below f (suc n) e k l =
     by-test (eqb k n)
     (λ q. rw (eqb-true k n q) (h .0))
     (λ q. every-below f n (h .1) k (omega (arith, eqb-false k n q)))
-
-pub rows-length : length rows ≡ 4 * count
-unfolding rows
-rows-length = refl
 
 -- a row names only rows above it (the first names itself, and its kind asks for neither)
 

@@ -209,7 +209,7 @@ fn check_rule(
 }
 
 // A column of a row: kind, tag or argument, body's row, next row.
-fn column(table: &[u8], row: usize, i: usize) -> usize
+fn column(table: &table::Table, row: usize, i: usize) -> usize
     requires { ⌜ (now table ≡ rows) × ((row < count) × (i < 4)) ⌝ }
     ensures { λ r. ⌜ r ≡ columnOf (now (table .entry)) row i ⌝ }
 {
@@ -251,7 +251,7 @@ fn by_contents(contents: Fit, stop: usize) -> Field
 
 // As fit_row, with no call where the row is free: most bodies are.
 fn fit_body(
-    table: &[u8],
+    table: &table::Table,
     given: &[u8],
     row: usize,
     s: &[u8],
@@ -270,7 +270,7 @@ fn fit_body(
 
 // The field at a place of the window, by its row.
 fn fit_field(
-    table: &[u8],
+    table: &table::Table,
     given: &[u8],
     row: usize,
     s: &[u8],
@@ -308,7 +308,7 @@ fn fit_field(
 
 // The window by a row that is no field's: its end, each element of it, or a rule of it as a whole.
 fn fit_rest(
-    table: &[u8],
+    table: &table::Table,
     given: &[u8],
     row: usize,
     s: &[u8],
@@ -349,7 +349,7 @@ fn fit_rest(
 
 // Whether the window is as a row of the table says, field by field. The octets `given` are those that a rule compares with.
 fn fit_row(
-    table: &[u8],
+    table: &table::Table,
     given: &[u8],
     row: usize,
     s: &[u8],
@@ -376,7 +376,7 @@ fn fit_row(
 
 // Whether each element of the window, by itself, is as the row says.
 fn fit_each(
-    table: &[u8],
+    table: &table::Table,
     given: &[u8],
     row: usize,
     s: &[u8],

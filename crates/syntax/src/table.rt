@@ -1,6 +1,8 @@
 // Made by tools/table.py from specs/Asn.antt and specs/Forms.antt: change those, not this file.
 // A row is four octets: kind, tag or argument, body's row, next row. specs/Rows.antt says what a row stands for.
-pub const ROWS: [u8; 568] = [
+pub type Table = [u8; 568];
+
+pub const ROWS: Table = [
     // 0: free
     0,
     0x00,

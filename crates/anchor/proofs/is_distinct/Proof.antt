@@ -26,35 +26,32 @@ element-at-requires c κs = search needs
 next-requires : tie.Need-next-requires Inv-loop μ-loop
 next-requires c κs = search needs
 
-key-requires : tie.Need-key-requires Inv-loop μ-loop
-key-requires c κs = search needs
-
-occurs-requires : tie.Need-occurs-requires Inv-loop μ-loop
-occurs-requires c κs = search needs
+recurs-requires : tie.Need-recurs-requires Inv-loop μ-loop
+recurs-requires c κs = search needs
 
 returns : tie.Need-returns Inv-loop μ-loop
 returns c =
-    let a = c .before .before .before .before .before .before .before .before .args in
-    let l = c .before .before .before .before .before .before .loop in
-    let q = c .before .before .before .before .element-at .ensures in
-    let t = c .before .before .before .before .before .loop-test .taken in
-    sym (distinct-not (keyOf (a .by) (a .s .now)) (a .s .now) (l .i) (a .outer .stop) q t (c .before .before .before .next .ensures) (c .before .before .key .ensures) (c .before .occurs .ensures) (c .if1 .taken)) ∙ l .inv
+    let a = c .before .before .before .before .before .before .before .args in
+    let l = c .before .before .before .before .before .loop in
+    let q = c .before .before .before .element-at .ensures in
+    let t = c .before .before .before .before .loop-test .taken in
+    sym (distinct-not (keyOf (a .by) (a .s .now)) (a .s .now) (l .i) (a .outer .stop) q t (c .before .before .next .ensures) refl (c .before .recurs .ensures) (c .if1 .taken)) ∙ l .inv
 
 loop-less : tie.Need-loop-less Inv-loop μ-loop
 loop-less c =
-    let a = c .before .before .before .before .before .before .before .before .args in
-    let l = c .before .before .before .before .before .before .loop in
-    let q = c .before .before .before .before .element-at .ensures in
-    let t = c .before .before .before .before .before .loop-test .taken in
-    omega (arith, run-on (a .s .now) (l .i) (a .outer .stop) q t (c .before .before .before .next .ensures))
+    let a = c .before .before .before .before .before .before .before .args in
+    let l = c .before .before .before .before .before .loop in
+    let q = c .before .before .before .element-at .ensures in
+    let t = c .before .before .before .before .loop-test .taken in
+    omega (arith, run-on (a .s .now) (l .i) (a .outer .stop) q t (c .before .before .next .ensures))
 
 loop-again : tie.Need-loop-again Inv-loop μ-loop
 loop-again c =
-    let a = c .before .before .before .before .before .before .before .before .args in
-    let l = c .before .before .before .before .before .before .loop in
-    let q = c .before .before .before .before .element-at .ensures in
-    let t = c .before .before .before .before .before .loop-test .taken in
-    sym (distinct-turn (keyOf (a .by) (a .s .now)) (a .s .now) (l .i) (a .outer .stop) q t (c .before .before .before .next .ensures) (c .before .before .key .ensures) (c .before .occurs .ensures) (c .if1 .left)) ∙ l .inv
+    let a = c .before .before .before .before .before .before .before .args in
+    let l = c .before .before .before .before .before .loop in
+    let q = c .before .before .before .element-at .ensures in
+    let t = c .before .before .before .before .loop-test .taken in
+    sym (distinct-turn (keyOf (a .by) (a .s .now)) (a .s .now) (l .i) (a .outer .stop) q t (c .before .before .next .ensures) refl (c .before .recurs .ensures) (c .if1 .left)) ∙ l .inv
 
 returns-2 : tie.Need-returns-2 Inv-loop μ-loop
 returns-2 c =
@@ -71,8 +68,7 @@ is-distinct-spec =
     loop-holds
     element-at-requires
     next-requires
-    key-requires
-    occurs-requires
+    recurs-requires
     returns
     loop-less
     loop-again

@@ -4,16 +4,16 @@ use native.Mathlib.Omega.{arith}
 use borrow.Author.Needs.{needs}
 use mathlib.Core.Path.{_≡_, sym, _∙_}
 use lib.ListN.{length, drop}
-use Rattle.der.specs.Contents.{arcsOk, oidOk}
+use Rattle.der.specs.Contents.{arcsOk, arcBegins, oidOk}
 use Rattle.der.proofs.Leaves.{oid-none, oid-arcs, arcs-end, arcs-padded, arcs-turn}
 use Rattle.der.proofs.is_oid.Statement.{statement}
 use Rattle.der.proofs.is_oid.Tie as tie
 
 abbrev Inv-loop : tie.InvT-loop
-Inv-loop o fresh₀ i₀ fresh i = (i ≤ length o) × (arcsOk fresh (drop i o) ≡ oidOk o)
+Inv-loop o i₀ i = (i ≤ length o) × (arcsOk (arcBegins o i) (drop i o) ≡ oidOk o)
 
 abbrev μ-loop : tie.MeasureT-loop
-μ-loop o fresh₀ i₀ fresh i = length o - i
+μ-loop o i₀ i = length o - i
 
 returns : tie.Need-returns Inv-loop μ-loop
 returns c = sym (oid-none _ (c .if1 .taken))
@@ -21,17 +21,14 @@ returns c = sym (oid-none _ (c .if1 .taken))
 loop-holds : tie.Need-loop-holds Inv-loop μ-loop
 loop-holds c = (omega arith, sym (oid-arcs _ (c .if1 .left)))
 
-shared-slice-read-x : tie.Need-shared-slice-read-x Inv-loop μ-loop
-shared-slice-read-x c = search needs
-
 is-padding-requires : tie.Need-is-padding-requires Inv-loop μ-loop
 is-padding-requires c κs = search needs
 
 returns-2 : tie.Need-returns-2 Inv-loop μ-loop
 returns-2 c =
-    let l = c .before .before .before .before .loop in
+    let l = c .before .before .before .loop in
     let p = sym (c .before .is-padding .ensures) ∙ c .if2 .taken in
-    sym (arcs-padded (c .before .before .before .before .before .before .before .args .o .now) (l .i) (l .fresh) (omega arith) p) ∙ l .inv .1
+    sym (arcs-padded (c .before .before .before .before .before .before .args .o .now) (l .i) (omega arith) p) ∙ l .inv .1
 
 add-i : tie.Need-add-i Inv-loop μ-loop
 add-i c = search needs
@@ -41,14 +38,20 @@ loop-less c = search needs
 
 loop-again : tie.Need-loop-again Inv-loop μ-loop
 loop-again c =
-    let l = c .before .before .before .before .loop in
+    let l = c .before .before .before .loop in
     let p = sym (c .before .is-padding .ensures) ∙ c .if2 .left in
-    (omega arith, sym (arcs-turn (c .before .before .before .before .before .before .before .args .o .now) (l .i) (l .fresh) (omega arith) p) ∙ l .inv .1)
+    (omega arith, sym (arcs-turn (c .before .before .before .before .before .before .args .o .now) (l .i) (omega arith) p) ∙ l .inv .1)
+
+sub-result : tie.Need-sub-result Inv-loop μ-loop
+sub-result c = search needs
+
+shared-slice-read-result : tie.Need-shared-slice-read-result Inv-loop μ-loop
+shared-slice-read-result c = search needs
 
 returns-3 : tie.Need-returns-3 Inv-loop μ-loop
 returns-3 c =
-    let l = c .before .loop in
-    sym (arcs-end (c .before .before .before .before .args .o .now) (l .i) (l .fresh) (omega arith)) ∙ l .inv .1
+    let l = c .before .before .loop in
+    sym (arcs-end (c .before .before .before .before .before .args .o .now) (l .i) (c .before .before .before .if1 .left) (omega arith)) ∙ l .inv .1
 
 pub is-oid-spec : {M : Type 1} → statement M
 is-oid-spec =
@@ -58,10 +61,11 @@ is-oid-spec =
     μ-loop
     returns
     loop-holds
-    shared-slice-read-x
     is-padding-requires
     returns-2
     add-i
     loop-less
     loop-again
+    sub-result
+    shared-slice-read-result
     returns-3)

@@ -1,12 +1,45 @@
 -- `der::is_padding` meets its contract. Assumes nothing.
+use borrow.Author.Needs.{needs}
+use mathlib.Core.Path.{sym}
+use borrow.Author.Tests.{eq-eqb, ne-eqb}
+use Rattle.octets.specs.Octets.{octet}
+use Rattle.der.specs.Contents.{arcBegins}
+use Rattle.der.proofs.Bools.{and-true, and-false}
 use Rattle.der.proofs.is_padding.Statement.{statement}
 use Rattle.der.proofs.is_padding.Tie as tie
 
+shared-slice-read-if1 : tie.Need-shared-slice-read-if1
+shared-slice-read-if1 c = search needs
+
 returns : tie.Need-returns
-returns c = rw (c .if1 .taken)
+returns c =
+    let a = c .before .before .args in
+    rw (ne-eqb (octet (a .o .now) (a .i)) 128 (c .if1 .taken)) (sym (and-false (arcBegins (a .o .now) (a .i))))
 
 returns-2 : tie.Need-returns-2
-returns-2 c = rw (c .if1 .left)
+returns-2 c =
+    let a = c .before .before .before .args in
+    rw (eq-eqb (octet (a .o .now) (a .i)) 128 (c .before .if1 .left), eq-eqb (a .i) 0 (c .if2 .taken))
+
+sub-result : tie.Need-sub-result
+sub-result c = search needs
+
+shared-slice-read-result : tie.Need-shared-slice-read-result
+shared-slice-read-result c = search needs
+
+returns-3 : tie.Need-returns-3
+returns-3 c =
+    let a = c .before .before .before .before .args in
+    rw (eq-eqb (octet (a .o .now) (a .i)) 128 (c .before .before .if1 .left), ne-eqb (a .i) 0 (c .before .if2 .left))
+    (sym (and-true _))
 
 pub is-padding-spec : {M : Type 1} → statement M
-is-padding-spec = tie.close (tie.spec returns returns-2)
+is-padding-spec =
+    tie.close
+    (tie.spec
+    shared-slice-read-if1
+    returns
+    returns-2
+    sub-result
+    shared-slice-read-result
+    returns-3)

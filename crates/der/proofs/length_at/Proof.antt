@@ -1,57 +1,28 @@
--- `der::length_at` meets its contract. The loop's invariant: the length is what n and the octets from i on write. Assumes nothing.
-use Prim.Native.Nat.{_+_, _-_, _*_, _≤_}
+-- `der::length_at` meets its contract. The loop's invariant: the octets up to i are read. Assumes nothing.
+use Prim.Native.Nat.{_-_}
 use native.Mathlib.Omega.{arith}
 use borrow.Author.Needs.{needs}
-use mathlib.Core.Path.{_≡_, sym, ap, _∙_}
-use Rattle.octets.specs.Octets.{octet, part}
-use Rattle.octets.specs.Number.{numberFrom}
-use Rattle.octets.proofs.Parts.{part-none}
-use Rattle.octets.proofs.Number.{number-grows}
-use Rattle.der.specs.Element.{lengthAt}
-use Rattle.der.proofs.Header.{length-from, part-turn}
+use mathlib.Core.Logic.{⊎-elim}
+use mathlib.Core.Path.{sym, ap, _∙_}
+use Rattle.octets.specs.Octets.{octet}
+use Rattle.der.proofs.Header.{ReadTo, read-none, read-first, read-digit, read-beyond, read-all, length-beyond, length-of}
 use Rattle.der.proofs.length_at.Statement.{statement}
 use Rattle.der.proofs.length_at.Tie as tie
 
 abbrev Inv-loop : tie.InvT-loop
-Inv-loop s at start room n₀ i₀ n i = (i ≤ start) × (numberFrom n (part s i start) ≡ lengthAt s at)
+Inv-loop s at stop start₀ n₀ i₀ start n i = ReadTo s at stop start n i
 
 abbrev μ-loop : tie.MeasureT-loop
-μ-loop s at start room n₀ i₀ n i = start - i
+μ-loop s at stop start₀ n₀ i₀ start n i = stop - i
 
-add-short-length : tie.Need-add-short-length Inv-loop μ-loop
-add-short-length c = search needs
-
-shared-slice-read-short-length : tie.Need-shared-slice-read-short-length Inv-loop μ-loop
-shared-slice-read-short-length c = search needs
-
-short-length-requires : tie.Need-short-length-requires Inv-loop μ-loop
-short-length-requires c κs = search needs
+add-start : tie.Need-add-start Inv-loop μ-loop
+add-start c = search needs
 
 add-i : tie.Need-add-i Inv-loop μ-loop
 add-i c = search needs
 
 loop-holds : tie.Need-loop-holds Inv-loop μ-loop
-loop-holds c =
-    let b = c .before .before .before in
-    let f = c .short-length in
-    (omega arith, rw (b .pre .0) (length-from (b .args .s .now) (b .args .at) (f .result) (f .ensures .0) (f .ensures .1)))
-
-add-result : tie.Need-add-result Inv-loop μ-loop
-add-result c = search needs
-
-returns : tie.Need-returns Inv-loop μ-loop
-returns c =
-    let a = c .before .before .before .before .before .before .args in
-    let l = c .before .before .loop in
-    omega (
-      arith,
-      l .inv .1,
-      part-turn (a .s .now) (l .i) (a .start) (l .n) (omega arith) (omega arith),
-      number-grows (l .n * 256 + octet (a .s .now) (l .i)) (part (a .s .now) (l .i + 1) (a .start)),
-    )
-
-mul-n : tie.Need-mul-n Inv-loop μ-loop
-mul-n c = search needs
+loop-holds c = read-none _ _ _ (c .before .pre .0)
 
 shared-slice-read-wide : tie.Need-shared-slice-read-wide Inv-loop μ-loop
 shared-slice-read-wide c = search needs
@@ -59,8 +30,36 @@ shared-slice-read-wide c = search needs
 wide-requires : tie.Need-wide-requires Inv-loop μ-loop
 wide-requires c κs = search needs
 
+add-if1 : tie.Need-add-if1 Inv-loop μ-loop
+add-if1 c = search needs
+
+sub-if3 : tie.Need-sub-if3 Inv-loop μ-loop
+sub-if3 c = search needs
+
+returns : tie.Need-returns Inv-loop μ-loop
+returns c =
+    let b = c .before .before .before .before .before .before .before .before in
+    let l = c .before .before .before .before .before .before .loop in
+    let f = c .before .before .if1 .taken in
+    let x = ap (octet (b .args .s .now)) (sym f) ∙ sym (c .before .before .before .wide .ensures) in
+    sym (length-beyond (b .args .s .now) (b .args .at) (b .args .stop) (omega (arith, x, l .inv .none f .0)))
+
+add-start-2 : tie.Need-add-start-2 Inv-loop μ-loop
+add-start-2 c = search needs
+
+sub-if4 : tie.Need-sub-if4 Inv-loop μ-loop
+sub-if4 c = search needs
+
+returns-2 : tie.Need-returns-2 Inv-loop μ-loop
+returns-2 c =
+    let b = c .before .before .before .before .before .before .before in
+    sym (length-beyond _ _ _ (read-beyond _ _ _ (b .pre .1) (c .before .before .before .before .before .loop .inv) (c .before .if1 .left) (c .before .before .before .before .loop-test .taken) (c .if4 .taken)))
+
+mul-n : tie.Need-mul-n Inv-loop μ-loop
+mul-n c = search needs
+
 add-n : tie.Need-add-n Inv-loop μ-loop
-add-n c = omega (arith, c .wide .ensures, c .before .shared-slice-known3 .given (c .before .before .before .before .loop .i))
+add-n c = omega (arith, c .before .before .wide .ensures, c .before .before .before .shared-slice-known2 .given (c .before .before .before .before .before .loop .i))
 
 add-i-2 : tie.Need-add-i-2 Inv-loop μ-loop
 add-i-2 c = search needs
@@ -70,16 +69,45 @@ loop-less c = search needs
 
 loop-again : tie.Need-loop-again Inv-loop μ-loop
 loop-again c =
-    let a = c .before .before .before .before .before .before .before .before .args in
+    let b = c .before .before .before .before .before .before in
     let l = c .before .before .before .before .loop in
-    (omega arith, rw (c .wide .ensures) (sym (part-turn (a .s .now) (l .i) (a .start) (l .n) (omega arith) (omega arith))) ∙ l .inv .1)
+    let x = c .before .wide .ensures in
+    let first = read-first (b .args .s .now) (b .args .at) (b .args .stop) in
+    ⊎-elim
+    (λ w.
+    let z = l .inv .none (w .0 .taken) in
+    first
+    (w .0 .taken)
+    (λ k. w .3 ∙ x)
+    (λ k. absurd (omega (arith, x, w .1 .taken)))
+    (omega (arith, x, w .1 .taken, w .2, z .0))
+    (omega (arith, w .2)))
+    (⊎-elim
+    (λ w.
+    let z = l .inv .none (w .0 .taken) in
+    first
+    (w .0 .taken)
+    (λ k. absurd (omega (arith, x, w .1 .left)))
+    (λ k. w .4 ∙ z .1)
+    (omega (arith, x, w .1 .left, w .3, z .0))
+    (omega (arith, w .1 .left, w .2 .left, w .3)))
+    (λ w. rw (w .2, w .3, x) (read-digit (b .args .s .now) (b .args .at) (b .args .stop) (b .pre .1) (l .inv) (w .0 .left) (c .before .before .before .loop-test .taken))))
+    (c .if1 .came)
 
-returns-2 : tie.Need-returns-2 Inv-loop μ-loop
-unfolding numberFrom
-returns-2 c =
-    let a = c .before .before .before .before .before .args in
-    let l = c .before .loop in
-    omega (arith, l .inv .1, ap (numberFrom (l .n)) (part-none (a .s .now) (l .i) (a .start) (omega arith)))
+sub-if5 : tie.Need-sub-if5 Inv-loop μ-loop
+sub-if5 c = search needs
+
+returns-3 : tie.Need-returns-3 Inv-loop μ-loop
+returns-3 c =
+    let b = c .before .before .before .before in
+    let a = read-all (b .args .s .now) (b .args .at) (b .args .stop) (b .pre .1) (c .before .before .loop .inv) (c .before .loop-test .left) in
+    sym (length-beyond _ _ _ (omega (arith, a .0, a .1)))
+
+returns-4 : tie.Need-returns-4 Inv-loop μ-loop
+returns-4 c =
+    let b = c .before .before .before .before in
+    let a = read-all (b .args .s .now) (b .args .at) (b .args .stop) (b .pre .1) (c .before .before .loop .inv) (c .before .loop-test .left) in
+    rw (a .0, a .1) (sym (length-of _ _ _ (omega (arith, a .0, a .1))))
 
 pub length-at-spec : {M : Type 1} → statement M
 length-at-spec =
@@ -87,18 +115,22 @@ length-at-spec =
     (tie.spec
     Inv-loop
     μ-loop
-    add-short-length
-    shared-slice-read-short-length
-    short-length-requires
+    add-start
     add-i
     loop-holds
-    add-result
-    returns
-    mul-n
     shared-slice-read-wide
     wide-requires
+    add-if1
+    sub-if3
+    returns
+    add-start-2
+    sub-if4
+    returns-2
+    mul-n
     add-n
     add-i-2
     loop-less
     loop-again
-    returns-2)
+    sub-if5
+    returns-3
+    returns-4)

@@ -5,7 +5,7 @@ use borrow.Author.Needs.{needs}
 use mathlib.Core.Path.{_≡_, refl, sym, _∙_}
 use borrow.Author.Tests.{not-true, not-false}
 use Rattle.der.specs.Element.{elements, withTag}
-use Rattle.der.proofs.Elements.{good-within, with-tag-end, with-tag-found, with-tag-broken, with-tag-turn}
+use Rattle.der.proofs.Elements.{good-within, bad-tag, with-tag-end, with-tag-found, with-tag-broken, with-tag-turn}
 use Rattle.der.proofs.with_tag.Statement.{statement}
 use Rattle.der.proofs.with_tag.Tie as tie
 
@@ -23,42 +23,51 @@ element-at-requires c κs = search needs
 
 returns : tie.Need-returns Inv-loop μ-loop
 returns c =
-    let a = c .before .before .before .before .before .before .args in
-    let l = c .before .before .before .before .loop in
-    let q = c .before .before .element-at .ensures in
-    sym (with-tag-found (a .tag) (a .s .now) (l .i) (a .stop) q (c .before .before .before .loop-test .taken) (c .if1 .taken)) ∙ l .inv
+    let a = c .before .before .before .before .before .before .before .args in
+    let l = c .before .before .before .before .before .loop in
+    let q = c .before .before .before .element-at .ensures in
+    let z = bad-tag (a .s .now) (l .i) (a .stop) q (not-true _ (c .before .if1 .taken)) in
+    sym (with-tag-found (a .tag) (a .s .now) (l .i) (a .stop) q (c .before .before .before .before .loop-test .taken) (z ∙ sym (c .if2 .taken))) ∙ l .inv
 
 no-element-requires : tie.Need-no-element-requires Inv-loop μ-loop
 no-element-requires c κs = search needs
 
 returns-2 : tie.Need-returns-2 Inv-loop μ-loop
 returns-2 c =
-    let a = c .before .before .before .before .before .before .before .before .before .args in
-    let l = c .before .before .before .before .before .before .before .loop in
-    let q = c .before .before .before .before .before .element-at .ensures in
-    let m = c .before .before .before .before .before .before .loop-test .taken in
+    let a = c .before .before .before .before .before .before .before .before .args in
+    let l = c .before .before .before .before .before .before .loop in
+    let q = c .before .before .before .before .element-at .ensures in
+    let g = not-true _ (c .before .before .if1 .taken) in
+    let z = bad-tag (a .s .now) (l .i) (a .stop) q g in
     c .no-element .ensures
-    ∙ sym (with-tag-broken (a .tag) (a .s .now) (l .i) (a .stop) q m (not-true _ (c .before .if2 .taken)) (c .before .before .before .if1 .left))
+    ∙ sym (with-tag-broken (a .tag) (a .s .now) (l .i) (a .stop) q (c .before .before .before .before .before .loop-test .taken) g (λ e. c .before .if2 .left (sym e ∙ z)))
     ∙ l .inv
+
+returns-3 : tie.Need-returns-3 Inv-loop μ-loop
+returns-3 c =
+    let a = c .before .before .before .before .before .before .before .before .args in
+    let l = c .before .before .before .before .before .before .loop in
+    let q = c .before .before .before .before .element-at .ensures in
+    sym (with-tag-found (a .tag) (a .s .now) (l .i) (a .stop) q (c .before .before .before .before .before .loop-test .taken) (c .if3 .taken)) ∙ l .inv
 
 loop-less : tie.Need-loop-less Inv-loop μ-loop
 loop-less c =
     let a = c .before .before .before .before .before .before .before .before .args in
     let q = c .before .before .before .before .element-at .ensures in
-    omega (arith, good-within (a .s .now) (c .before .before .before .before .before .before .loop .i) (a .stop) q (not-false _ (c .if2 .left)))
+    omega (arith, good-within (a .s .now) (c .before .before .before .before .before .before .loop .i) (a .stop) q (not-false _ (c .before .before .if1 .left)))
 
 loop-again : tie.Need-loop-again Inv-loop μ-loop
 loop-again c =
     let a = c .before .before .before .before .before .before .before .before .args in
     let l = c .before .before .before .before .before .before .loop in
     let q = c .before .before .before .before .element-at .ensures in
-    sym (with-tag-turn (a .tag) (a .s .now) (l .i) (a .stop) q (not-false _ (c .if2 .left)) (c .before .before .if1 .left)) ∙ l .inv
+    sym (with-tag-turn (a .tag) (a .s .now) (l .i) (a .stop) q (not-false _ (c .before .before .if1 .left)) (c .if3 .left)) ∙ l .inv
 
 no-element-requires-2 : tie.Need-no-element-requires-2 Inv-loop μ-loop
 no-element-requires-2 c κs = search needs
 
-returns-3 : tie.Need-returns-3 Inv-loop μ-loop
-returns-3 c =
+returns-4 : tie.Need-returns-4 Inv-loop μ-loop
+returns-4 c =
     let a = c .before .before .before .before .args in
     let l = c .before .before .loop in
     c .no-element2 .ensures ∙ sym (with-tag-end (a .tag) (a .s .now) (l .i) (a .stop) (c .before .loop-test .left)) ∙ l .inv
@@ -74,7 +83,8 @@ with-tag-spec =
     returns
     no-element-requires
     returns-2
+    returns-3
     loop-less
     loop-again
     no-element-requires-2
-    returns-3)
+    returns-4)

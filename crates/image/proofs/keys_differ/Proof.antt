@@ -1,6 +1,6 @@
 -- `image::keys_differ` meets its contract. The loop: the keys left differ as all do. Assumes nothing.
 use borrow.Author.Needs.{needs}
-use Prim.Native.Nat.{_-_}
+use native.Mathlib.Omega.{arith}
 use mathlib.Core.List.{map}
 use mathlib.Core.Path.{_≡_, refl, sym, ap, _∙_}
 use lib.ListN.{drop}
@@ -53,7 +53,7 @@ loop-again c =
     let l = c .before .before .before .before .before .before .before .before .loop in
     let key = c .before .before .before .before .public-key .ensures ∙ ap publicKey (c .before .before .before .before .before .info-of .ensures
     ∙ ap infoIn (c .before .before .before .before .before .before .record-at .ensures)) in
-    sym (keys-fresh s (l .q) (l .left) (c .before .before .before .before .before .before .before .loop-test .taken) _ _ _ key
+    sym (keys-fresh s (l .q) (l .left) (omega arith) _ _ _ key
     (c .before .before .before .record-end .ensures) (c .before .before .find-from .ensures) (ap isAt (c .enum-told .given .1))) ∙ l .inv
 
 enum-told-2 : tie.Need-enum-told-2 Inv-loop μ-loop
@@ -66,7 +66,7 @@ returns c =
     let l = c .before .before .before .before .before .before .before .before .loop in
     let key = c .before .before .before .before .public-key .ensures ∙ ap publicKey (c .before .before .before .before .before .info-of .ensures
     ∙ ap infoIn (c .before .before .before .before .before .before .record-at .ensures)) in
-    sym (keys-repeated s (l .q) (l .left) (c .before .before .before .before .before .before .before .loop-test .taken) _ _ _ key
+    sym (keys-repeated s (l .q) (l .left) (omega arith) _ _ _ key
     (c .before .before .before .record-end .ensures) (c .before .before .find-from .ensures) (ap isAt (c .enum-told2 .given .1))) ∙ l .inv
 
 returns-2 : tie.Need-returns-2 Inv-loop μ-loop

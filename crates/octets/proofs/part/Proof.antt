@@ -17,10 +17,7 @@ part-result-end : tie.Need-part-result-end
 part-result-end c = search needs
 
 returns : tie.Need-returns
-returns c =
-    let a = c .before .before .args in
-    let n = length (a .s .now) in
-    part-none (a .s .now) n n (omega arith) ∙ sym (part-behind (a .s .now) (a .a) (a .e) (c .before .if1 .taken))
+returns c = search needs
 
 sub-result-2 : tie.Need-sub-result-2
 sub-result-2 c = search needs
@@ -35,7 +32,7 @@ returns-2 : tie.Need-returns-2
 returns-2 c =
     let a = c .before .before .before .args in
     let n = length (a .s .now) in
-    part-none (a .s .now) n n (omega arith) ∙ sym (part-none (a .s .now) (a .a) (a .e) (c .before .if2 .taken))
+    part-none (a .s .now) n n (omega arith) ∙ sym (part-none (a .s .now) (a .a) (a .e) (c .before .if2 .left))
 
 sub-result-3 : tie.Need-sub-result-3
 sub-result-3 c = search needs
@@ -48,9 +45,8 @@ part-result-end-3 c = search needs
 
 returns-3 : tie.Need-returns-3
 returns-3 c =
-    let a = c .before .before .before .before .args in
-    let n = length (a .s .now) in
-    part-rest (a .s .now) (a .a) n (omega arith) ∙ sym (part-rest (a .s .now) (a .a) (a .e) (c .before .if3 .taken))
+    let a = c .before .before .before .args in
+    part-rest (a .s .now) (a .a) (length (a .s .now)) (omega arith) ∙ sym (part-rest (a .s .now) (a .a) (a .e) (omega arith))
 
 sub-result-4 : tie.Need-sub-result-4
 sub-result-4 c = search needs
@@ -62,7 +58,10 @@ part-result-end-4 : tie.Need-part-result-end-4
 part-result-end-4 c = search needs
 
 returns-4 : tie.Need-returns-4
-returns-4 c = search needs
+returns-4 c =
+    let a = c .before .before .before .args in
+    let n = length (a .s .now) in
+    part-none (a .s .now) n n (omega arith) ∙ sym (part-behind (a .s .now) (a .a) (a .e) (c .before .if3 .left))
 
 pub part-spec : {M : Type 1} → statement M
 part-spec =

@@ -115,7 +115,7 @@ body-returns : (t : ℕ) → fit-body-lts.Need-returns (body-claims t) (body-at 
 body-returns t c = sym (first-fits _ _ (c .if1 .taken) _ _ _ _)
 
 body-fit-row-requires : (t : ℕ) → fit-body-lts.Need-fit-row-requires (body-claims t) (body-at t) fit-body.Post
-body-fit-row-requires t c κs = let p = c .before .before .before .before .pre in (omega arith, p .1)
+body-fit-row-requires t c κs = let p = c .before .before .before .pre in (omega arith, p .1)
 
 body-returns-2 : (t : ℕ) → fit-body-lts.Need-returns-2 (body-claims t) (body-at t) fit-body.Post
 body-returns-2 t c = c .fit-row .ensures
@@ -139,7 +139,7 @@ each-returns t c =
     ∙ many-broken _ _ _ _ _ (c .before .before .element-at .ensures) (c .before .before .before .loop-test .taken) (not-true _ (c .if1 .taken)))
 
 each-fit-row-requires : (t : ℕ) → fit-each-lts.Need-fit-row-requires (each-claims t) (each-at t) fit-each.Post each-Inv each-μ
-each-fit-row-requires t c κs = let p = c .before .before .before .before .before .before .before .before .pre in (omega arith, p .1)
+each-fit-row-requires t c κs = let p = c .before .before .before .before .before .before .before .pre in (omega arith, p .1)
 
 each-enum-known-o : (t : ℕ) → fit-each-lts.Need-enum-known-o (each-claims t) (each-at t) fit-each.Post each-Inv each-μ
 each-enum-known-o t c = search needs
@@ -170,30 +170,30 @@ each-returns-3 t c = sym (c .before .loop .inv ∙ many-end _ _ _ _ _ (c .loop-t
 
 -- where the kind of a field's row has been read
 field-row : (t : ℕ) (w : fit-field-lts.After-column (field-claims t) (field-at t) fit-field.Post)
-    → Row (w .before .before .before .before .args .table .now) (w .before .before .before .before .args .row) (w .column .result)
+    → Row (w .before .before .before .args .table .now) (w .before .before .before .args .row) (w .column .result)
     × (isField (w .column .result) ≡ true)
 field-row t w =
-    let p = w .before .before .before .before .pre .1 in
+    let p = w .before .before .before .pre .1 in
     (record { table-is = p .0; inside = p .1 .0; kind-is = w .column .ensures }, ap isField (w .column .ensures) ∙ p .1 .1)
 
 -- where an element has been read
 field-met : (t : ℕ) (w : fit-field-lts.Else2 (field-claims t) (field-at t) fit-field.Post)
-    → Met (w .before .before .before .before .before .before .before .before .args .s .now) (w .before .before .before .before .before .before .before .before .args .at)
-    (w .before .before .before .before .before .before .before .before .args .stop) (w .before .before .element-at .result)
+    → Met (w .before .before .before .before .before .before .before .args .s .now) (w .before .before .before .before .before .before .before .args .at)
+    (w .before .before .before .before .before .before .before .args .stop) (w .before .before .element-at .result)
 field-met t w = record { is = w .before .before .element-at .ensures; room = w .before .before .before .if1 .left; good = not-false _ (w .if2 .left) }
 
 -- where the body's row has been read
 field-below : (t : ℕ) (w : fit-field-lts.After-column2 (field-claims t) (field-at t) fit-field.Post)
     → (4 * w .column2 .result + 3 < t)
-    × ((w .before .before .before .before .before .before .before .before .before .before .args .table .now ≡ rows) × (w .column2 .result < count))
+    × ((w .before .before .before .before .before .before .before .before .before .args .table .now ≡ rows) × (w .column2 .result < count))
 field-below t w =
     let r = field-row t (w .before .before .before .before .before .before) in
     let l = lower-body (r .0) (field-some (r .1)) (w .column2 .ensures) in
-    let p = w .before .before .before .before .before .before .before .before .before .before .pre in
+    let p = w .before .before .before .before .before .before .before .before .before .pre in
     (omega arith, (p .1 .0, omega arith))
 
 field-column-requires : (t : ℕ) → fit-field-lts.Need-column-requires (field-claims t) (field-at t) fit-field.Post
-field-column-requires t c κs = let p = c .before .before .before .pre .1 in (p .0, (p .1 .0, omega arith))
+field-column-requires t c κs = let p = c .before .before .pre .1 in (p .0, (p .1 .0, omega arith))
 
 field-left-out-requires : (t : ℕ) → fit-field-lts.Need-left-out-requires (field-claims t) (field-at t) fit-field.Post
 field-left-out-requires t c κs = search needs
@@ -217,7 +217,7 @@ field-returns-3 t c =
     field-any (r .0) _ _ _ _ _ (r .1) (field-met t (c .before)) (c .if3 .taken)
 
 field-column-requires-2 : (t : ℕ) → fit-field-lts.Need-column-requires-2 (field-claims t) (field-at t) fit-field.Post
-field-column-requires-2 t c κs = let p = c .before .before .before .before .before .before .before .before .before .pre .1 in (p .0, (p .1 .0, omega arith))
+field-column-requires-2 t c κs = let p = c .before .before .before .before .before .before .before .before .pre .1 in (p .0, (p .1 .0, omega arith))
 
 field-fit-body-requires : (t : ℕ) → fit-field-lts.Need-fit-body-requires (field-claims t) (field-at t) fit-field.Post
 field-fit-body-requires t c κs = field-below t (c .before)
@@ -235,7 +235,7 @@ field-wide-requires : (t : ℕ) → fit-field-lts.Need-wide-requires (field-clai
 field-wide-requires t c κs = search needs
 
 field-column-requires-3 : (t : ℕ) → fit-field-lts.Need-column-requires-3 (field-claims t) (field-at t) fit-field.Post
-field-column-requires-3 t c κs = let p = c .before .before .before .before .before .before .before .before .before .before .before .before .pre .1 in (p .0, (p .1 .0, omega arith))
+field-column-requires-3 t c κs = let p = c .before .before .before .before .before .before .before .before .before .before .before .pre .1 in (p .0, (p .1 .0, omega arith))
 
 field-left-out-requires-2 : (t : ℕ) → fit-field-lts.Need-left-out-requires-2 (field-claims t) (field-at t) fit-field.Post
 field-left-out-requires-2 t c κs = search needs
@@ -263,26 +263,26 @@ field-returns-6 t c =
 
 -- where the kind of another row has been read
 rest-row : (t : ℕ) (w : fit-rest-lts.After-column (rest-claims t) (rest-at t) fit-rest.Post)
-    → Row (w .before .before .before .before .args .table .now) (w .before .before .before .before .args .row) (w .column .result)
-rest-row t w = let p = w .before .before .before .before .pre .1 in record { table-is = p .0; inside = p .1 .0; kind-is = w .column .ensures }
+    → Row (w .before .before .before .args .table .now) (w .before .before .before .args .row) (w .column .result)
+rest-row t w = let p = w .before .before .before .pre .1 in record { table-is = p .0; inside = p .1 .0; kind-is = w .column .ensures }
 
 -- where the body's row has been read
 rest-below : (t : ℕ) (w : fit-rest-lts.After-column2 (rest-claims t) (rest-at t) fit-rest.Post)
     → (4 * w .column2 .result + 3 < t)
-    × ((w .before .before .before .before .before .before .before .args .table .now ≡ rows) × (w .column2 .result < count))
+    × ((w .before .before .before .before .before .before .args .table .now ≡ rows) × (w .column2 .result < count))
 rest-below t w =
-    let p = w .before .before .before .before .before .before .before .pre in
+    let p = w .before .before .before .before .before .before .pre in
     let l = lower-body (rest-row t (w .before .before .before)) (w .before .before .if1 .left) (w .column2 .ensures) in
     (omega arith, (p .1 .0, omega arith))
 
 -- where the kind is none of free, end and many
 rest-rule : (t : ℕ) (w : fit-rest-lts.Else4 (rest-claims t) (rest-at t) fit-rest.Post) → 7 ≤ w .before .before .before .before .column .result
 rest-rule t w =
-    rule-kind (ap isField (w .before .before .before .before .column .ensures) ∙ w .before .before .before .before .before .before .before .before .pre .1 .1 .1)
+    rule-kind (ap isField (w .before .before .before .before .column .ensures) ∙ w .before .before .before .before .before .before .before .pre .1 .1 .1)
     (w .before .before .before .if1 .left) (w .before .before .if2 .left) (w .if4 .left)
 
 rest-column-requires : (t : ℕ) → fit-rest-lts.Need-column-requires (rest-claims t) (rest-at t) fit-rest.Post
-rest-column-requires t c κs = let p = c .before .before .before .pre .1 in (p .0, (p .1 .0, omega arith))
+rest-column-requires t c κs = let p = c .before .before .pre .1 in (p .0, (p .1 .0, omega arith))
 
 rest-returns : (t : ℕ) → fit-rest-lts.Need-returns (rest-claims t) (rest-at t) fit-rest.Post
 rest-returns t c = sym (row-free (rest-row t (c .before)) _ _ _ _ _ (c .if1 .taken))
@@ -294,7 +294,7 @@ rest-returns-3 : (t : ℕ) → fit-rest-lts.Need-returns-3 (rest-claims t) (rest
 rest-returns-3 t c = sym (row-end-breaks (rest-row t (c .before .before .before)) _ _ _ _ _ (c .before .if2 .taken) (c .if3 .left))
 
 rest-column-requires-2 : (t : ℕ) → fit-rest-lts.Need-column-requires-2 (rest-claims t) (rest-at t) fit-rest.Post
-rest-column-requires-2 t c κs = let p = c .before .before .before .before .before .before .pre .1 in (p .0, (p .1 .0, omega arith))
+rest-column-requires-2 t c κs = let p = c .before .before .before .before .before .pre .1 in (p .0, (p .1 .0, omega arith))
 
 rest-fit-each-requires : (t : ℕ) → fit-rest-lts.Need-fit-each-requires (rest-claims t) (rest-at t) fit-rest.Post
 rest-fit-each-requires t c κs = rest-below t (c .before)
@@ -324,7 +324,7 @@ rest-sub-check-rule : (t : ℕ) → fit-rest-lts.Need-sub-check-rule (rest-claim
 rest-sub-check-rule t c = rest-rule t (c .before .before .before)
 
 rest-column-requires-3 : (t : ℕ) → fit-rest-lts.Need-column-requires-3 (rest-claims t) (rest-at t) fit-rest.Post
-rest-column-requires-3 t c κs = let p = c .before .before .before .before .before .before .before .before .before .before .before .pre .1 in (p .0, (p .1 .0, omega arith))
+rest-column-requires-3 t c κs = let p = c .before .before .before .before .before .before .before .before .before .before .pre .1 in (p .0, (p .1 .0, omega arith))
 
 rest-check-rule-requires : (t : ℕ) → fit-rest-lts.Need-check-rule-requires (rest-claims t) (rest-at t) fit-rest.Post
 rest-check-rule-requires t c κs = search needs
@@ -347,14 +347,14 @@ row-loop-holds : (t : ℕ) → fit-row-lts.Need-loop-holds (row-claims t) (row-a
 row-loop-holds t c = (omega arith, refl)
 
 row-column-requires : (t : ℕ) → fit-row-lts.Need-column-requires (row-claims t) (row-at t) fit-row.Post row-Inv row-μ
-row-column-requires t c κs = let p = c .before .before .before .before .pre .1 in (p .0, (omega arith, omega arith))
+row-column-requires t c κs = let p = c .before .before .before .pre .1 in (p .0, (omega arith, omega arith))
 
 row-is-field-requires : (t : ℕ) → fit-row-lts.Need-is-field-requires (row-claims t) (row-at t) fit-row.Post row-Inv row-μ
 row-is-field-requires t c κs = search needs
 
 row-fit-field-requires : (t : ℕ) → fit-row-lts.Need-fit-field-requires (row-claims t) (row-at t) fit-row.Post row-Inv row-μ
 row-fit-field-requires t c κs =
-    let p = c .before .before .before .before .before .before .before .pre in
+    let p = c .before .before .before .before .before .before .pre in
     (omega arith, (p .1 .0, (omega arith, ap isField (sym (c .before .before .column .ensures)) ∙ sym (c .before .is-field .ensures) ∙ c .if1 .taken)))
 
 row-enum-known-o : (t : ℕ) → fit-row-lts.Need-enum-known-o (row-claims t) (row-at t) fit-row.Post row-Inv row-μ
@@ -370,13 +370,13 @@ row-enum-known-p : (t : ℕ) → fit-row-lts.Need-enum-known-p (row-claims t) (r
 row-enum-known-p t c = search needs
 
 row-column-requires-2 : (t : ℕ) → fit-row-lts.Need-column-requires-2 (row-claims t) (row-at t) fit-row.Post row-Inv row-μ
-row-column-requires-2 t c κs = let p = c .before .before .before .before .before .before .before .before .before .before .before .pre .1 in (p .0, (omega arith, omega arith))
+row-column-requires-2 t c κs = let p = c .before .before .before .before .before .before .before .before .before .before .pre .1 in (p .0, (omega arith, omega arith))
 
 -- the next row stands above
 row-falls : (t : ℕ) (c : fit-row-lts.After-column2 (row-claims t) (row-at t) fit-row.Post row-Inv row-μ)
     → c .column2 .result < c .before .before .before .before .before .before .before .before .loop .r
 row-falls t c =
-    let p = c .before .before .before .before .before .before .before .before .before .before .before .before .pre .1 in
+    let p = c .before .before .before .before .before .before .before .before .before .before .before .pre .1 in
     lower-next (record { table-is = p .0; inside = omega arith; kind-is = c .before .before .before .before .before .before .before .column .ensures })
     (field-some (sym (c .before .before .before .before .before .before .is-field .ensures) ∙ c .before .before .before .before .before .if1 .taken))
     (c .column2 .ensures)
@@ -393,7 +393,7 @@ row-loop-again t c =
 
 row-fit-rest-requires : (t : ℕ) → fit-row-lts.Need-fit-rest-requires (row-claims t) (row-at t) fit-row.Post row-Inv row-μ
 row-fit-rest-requires t c κs =
-    let p = c .before .before .before .before .before .before .before .pre in
+    let p = c .before .before .before .before .before .before .pre in
     (omega arith, (p .1 .0, (omega arith, ap isField (sym (c .before .before .column .ensures)) ∙ sym (c .before .is-field .ensures) ∙ c .if1 .left)))
 
 row-returns-2 : (t : ℕ) → fit-row-lts.Need-returns-2 (row-claims t) (row-at t) fit-row.Post row-Inv row-μ

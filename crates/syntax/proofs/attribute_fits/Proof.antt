@@ -9,9 +9,6 @@ use Rattle.syntax.proofs.attribute_fits.Tie as tie
 attribute-row-requires : tie.Need-attribute-row-requires
 attribute-row-requires c κs = search needs
 
-slice-aggregate-fit-row : tie.Need-slice-aggregate-fit-row
-slice-aggregate-fit-row c = search needs
-
 fit-row-requires : tie.Need-fit-row-requires
 unfolding rows
 fit-row-requires c κs = (refl, rw (c .before .attribute-row .ensures) (attribute-in (c .before .before .before .before .args .form)))
@@ -23,4 +20,4 @@ returns c =
 
 pub attribute-fits-spec : {M : Type 1} → statement M
 attribute-fits-spec =
-    tie.close (tie.spec attribute-row-requires slice-aggregate-fit-row fit-row-requires returns)
+    tie.close (tie.spec attribute-row-requires fit-row-requires returns)

@@ -14,9 +14,6 @@ form-row-requires c κs = search needs
 slice-aggregate-fit-row : tie.Need-slice-aggregate-fit-row
 slice-aggregate-fit-row c = search needs
 
-slice-aggregate-fit-row-2 : tie.Need-slice-aggregate-fit-row-2
-slice-aggregate-fit-row-2 c = search needs
-
 fit-row-requires : tie.Need-fit-row-requires
 unfolding rows
 fit-row-requires c κs = (refl, rw (c .before .before .form-row .ensures) (form-in (c .before .before .before .before .args .form)))
@@ -31,6 +28,5 @@ fits-spec =
     (tie.spec
     form-row-requires
     slice-aggregate-fit-row
-    slice-aggregate-fit-row-2
     fit-row-requires
     returns)

@@ -1,4 +1,4 @@
--- `der::check_element` and `der::check_run` meet their contracts: a cycle of calls. The depth falls from an element to the run inside it;
+-- `der::check_element`, `der::check_member` and `der::check_run` meet their contracts: a cycle of calls. The depth falls from an element to the run inside it;
 -- the octets that are left fall in the loop of a run, whose invariant is that the judge finds in what is left what it finds in the whole. Assumes nothing.
 use Prim.Native.Nat.{ℕ, _+_, _*_, _-_, _<_}
 use native.Mathlib.Omega.{arith}
@@ -9,28 +9,36 @@ use Rattle.der.specs.Element.{elements, inside}
 use Rattle.der.specs.Fit.{eachFrom, each}
 use Rattle.der.proofs.Elements.{good-within}
 use Rattle.der.proofs.Fits.{then-fits, then-breaks, held-fits, held-breaks, each-end, each-broken, each-breaks, each-turn}
-use Rattle.der.proofs.Checks.{memberFit, each-first, der-deep, der-bad, der-run, der-leaf}
+use Rattle.der.proofs.Checks.{memberFit, each-first, der-deep, der-bad, der-run, der-held}
 use borrow.Fn.Kinds.{In}
 use borrow.Fn.PlainCycle.{Measures, is, falls, and}
 use Rattle.der.proofs.check_element.Reads as check-element
 use Rattle.der.proofs.check_element.Kinds as check-element-kinds
-use Rattle.der.proofs.+check_element+check_run.Lts-check_element as check-element-lts
+use Rattle.der.proofs.+check_element+check_member+check_run.Lts-check_element as check-element-lts
+use Rattle.der.proofs.check_member.Reads as check-member
+use Rattle.der.proofs.check_member.Kinds as check-member-kinds
+use Rattle.der.proofs.+check_element+check_member+check_run.Lts-check_member as check-member-lts
 use Rattle.der.proofs.check_run.Reads as check-run
 use Rattle.der.proofs.check_run.Kinds as check-run-kinds
-use Rattle.der.proofs.+check_element+check_run.Lts-check_run as check-run-lts
-use Rattle.der.proofs.check_contents.Reads as check-contents-reads
+use Rattle.der.proofs.+check_element+check_member+check_run.Lts-check_run as check-run-lts
+use Rattle.der.proofs.contents.Reads as contents-reads
+use Rattle.der.proofs.contents_ok.Reads as contents-ok-reads
 use Rattle.der.proofs.element_at.Reads as element-at-reads
+use Rattle.der.proofs.hold.Reads as hold-reads
 use Rattle.der.proofs.is_constructed.Reads as is-constructed-reads
 use Rattle.der.proofs.is_sorted.Reads as is-sorted-reads
 use Rattle.der.proofs.no_element.Reads as no-element-reads
-use Rattle.der.proofs.+check_element+check_run.{statement}
-use Rattle.der.proofs.+check_element+check_run.Tie.{close}
+use Rattle.der.proofs.+check_element+check_member+check_run.{statement}
+use Rattle.der.proofs.+check_element+check_member+check_run.Tie.{close}
 
 abbrev μ-check-element : Measures 1 check-element-kinds.ps ℕ
-μ-check-element κs a = 2 * a .1 .1 .0
+μ-check-element κs a = 3 * a .1 .1 .0
+
+abbrev μ-check-member : Measures 1 check-member-kinds.ps ℕ
+μ-check-member κs a = 3 * a .1 .1 .0 + 1
 
 abbrev μ-check-run : Measures 1 check-run-kinds.ps ℕ
-μ-check-run κs a = 2 * a .1 .1 .0 + 1
+μ-check-run κs a = 3 * a .1 .1 .0 + 2
 
 abbrev check-element-at : ℕ → In 1 check-element-kinds.ps
 check-element-at t =
@@ -44,6 +52,18 @@ check-element-below t =
     (falls 1 check-element-kinds.ps _<_ μ-check-element t)
     check-element.Pre
 
+abbrev check-member-at : ℕ → In 1 check-member-kinds.ps
+check-member-at t =
+    and 1 check-member-kinds.ps (is 1 check-member-kinds.ps μ-check-member t) check-member.Pre
+
+abbrev check-member-below : ℕ → In 1 check-member-kinds.ps
+check-member-below t =
+    and
+    1
+    check-member-kinds.ps
+    (falls 1 check-member-kinds.ps _<_ μ-check-member t)
+    check-member.Pre
+
 abbrev check-run-at : ℕ → In 1 check-run-kinds.ps
 check-run-at t = and 1 check-run-kinds.ps (is 1 check-run-kinds.ps μ-check-run t) check-run.Pre
 
@@ -56,8 +76,12 @@ check-element-returns : (t : ℕ) → check-element-lts.Need-returns (
   is-constructed-reads.Learnt,
   check-run-below t,
   check-run.Post,
-  check-contents-reads.Asked,
-  check-contents-reads.Learnt,
+  contents-reads.Asked,
+  contents-reads.Learnt,
+  contents-ok-reads.Asked,
+  contents-ok-reads.Learnt,
+  hold-reads.Asked,
+  hold-reads.Learnt,
 ) (check-element-at t) check-element.Post
 check-element-returns t c = sym (der-deep _ _ _ (c .if1 .taken))
 
@@ -66,8 +90,12 @@ check-element-returns-2 : (t : ℕ) → check-element-lts.Need-returns-2 (
   is-constructed-reads.Learnt,
   check-run-below t,
   check-run.Post,
-  check-contents-reads.Asked,
-  check-contents-reads.Learnt,
+  contents-reads.Asked,
+  contents-reads.Learnt,
+  contents-ok-reads.Asked,
+  contents-ok-reads.Learnt,
+  hold-reads.Asked,
+  hold-reads.Learnt,
 ) (check-element-at t) check-element.Post
 check-element-returns-2 t c = sym (der-bad _ _ _ (not-true _ (c .if2 .taken)))
 
@@ -76,8 +104,12 @@ check-element-is-constructed-requires : (t : ℕ) → check-element-lts.Need-is-
   is-constructed-reads.Learnt,
   check-run-below t,
   check-run.Post,
-  check-contents-reads.Asked,
-  check-contents-reads.Learnt,
+  contents-reads.Asked,
+  contents-reads.Learnt,
+  contents-ok-reads.Asked,
+  contents-ok-reads.Learnt,
+  hold-reads.Asked,
+  hold-reads.Learnt,
 ) (check-element-at t) check-element.Post
 check-element-is-constructed-requires t c κs = search needs
 
@@ -86,8 +118,12 @@ check-element-sub-check-run : (t : ℕ) → check-element-lts.Need-sub-check-run
   is-constructed-reads.Learnt,
   check-run-below t,
   check-run.Post,
-  check-contents-reads.Asked,
-  check-contents-reads.Learnt,
+  contents-reads.Asked,
+  contents-reads.Learnt,
+  contents-ok-reads.Asked,
+  contents-ok-reads.Learnt,
+  hold-reads.Asked,
+  hold-reads.Learnt,
 ) (check-element-at t) check-element.Post
 check-element-sub-check-run t c = omega arith
 
@@ -96,8 +132,12 @@ check-element-check-run-requires : (t : ℕ) → check-element-lts.Need-check-ru
   is-constructed-reads.Learnt,
   check-run-below t,
   check-run.Post,
-  check-contents-reads.Asked,
-  check-contents-reads.Learnt,
+  contents-reads.Asked,
+  contents-reads.Learnt,
+  contents-ok-reads.Asked,
+  contents-ok-reads.Learnt,
+  hold-reads.Asked,
+  hold-reads.Learnt,
 ) (check-element-at t) check-element.Post
 check-element-check-run-requires t c κs = omega arith
 
@@ -106,34 +146,188 @@ check-element-returns-3 : (t : ℕ) → check-element-lts.Need-returns-3 (
   is-constructed-reads.Learnt,
   check-run-below t,
   check-run.Post,
-  check-contents-reads.Asked,
-  check-contents-reads.Learnt,
+  contents-reads.Asked,
+  contents-reads.Learnt,
+  contents-ok-reads.Asked,
+  contents-ok-reads.Learnt,
+  hold-reads.Asked,
+  hold-reads.Learnt,
 ) (check-element-at t) check-element.Post
 check-element-returns-3 t c =
     let k = sym (c .before .before .is-constructed .ensures) ∙ c .before .if3 .taken in
     c .check-run .ensures ∙ sym (der-run _ _ _ (c .before .before .before .before .before .if1 .left) (not-false _ (c .before .before .before .if2 .left)) k)
 
-check-element-check-contents-requires : (t : ℕ) → check-element-lts.Need-check-contents-requires (
+check-element-contents-requires : (t : ℕ) → check-element-lts.Need-contents-requires (
   is-constructed-reads.Asked,
   is-constructed-reads.Learnt,
   check-run-below t,
   check-run.Post,
-  check-contents-reads.Asked,
-  check-contents-reads.Learnt,
+  contents-reads.Asked,
+  contents-reads.Learnt,
+  contents-ok-reads.Asked,
+  contents-ok-reads.Learnt,
+  hold-reads.Asked,
+  hold-reads.Learnt,
 ) (check-element-at t) check-element.Post
-check-element-check-contents-requires t c κs = search needs
+check-element-contents-requires t c κs = search needs
+
+check-element-contents-ok-requires : (t : ℕ) → check-element-lts.Need-contents-ok-requires (
+  is-constructed-reads.Asked,
+  is-constructed-reads.Learnt,
+  check-run-below t,
+  check-run.Post,
+  contents-reads.Asked,
+  contents-reads.Learnt,
+  contents-ok-reads.Asked,
+  contents-ok-reads.Learnt,
+  hold-reads.Asked,
+  hold-reads.Learnt,
+) (check-element-at t) check-element.Post
+check-element-contents-ok-requires t c κs = search needs
+
+check-element-hold-requires : (t : ℕ) → check-element-lts.Need-hold-requires (
+  is-constructed-reads.Asked,
+  is-constructed-reads.Learnt,
+  check-run-below t,
+  check-run.Post,
+  contents-reads.Asked,
+  contents-reads.Learnt,
+  contents-ok-reads.Asked,
+  contents-ok-reads.Learnt,
+  hold-reads.Asked,
+  hold-reads.Learnt,
+) (check-element-at t) check-element.Post
+check-element-hold-requires t c κs = search needs
 
 check-element-returns-4 : (t : ℕ) → check-element-lts.Need-returns-4 (
   is-constructed-reads.Asked,
   is-constructed-reads.Learnt,
   check-run-below t,
   check-run.Post,
-  check-contents-reads.Asked,
-  check-contents-reads.Learnt,
+  contents-reads.Asked,
+  contents-reads.Learnt,
+  contents-ok-reads.Asked,
+  contents-ok-reads.Learnt,
+  hold-reads.Asked,
+  hold-reads.Learnt,
 ) (check-element-at t) check-element.Post
 check-element-returns-4 t c =
-    let k = sym (c .before .before .is-constructed .ensures) ∙ c .before .if3 .left in
-    c .check-contents .ensures ∙ sym (der-leaf _ _ _ (c .before .before .before .before .before .if1 .left) (not-false _ (c .before .before .before .if2 .left)) k)
+    let k = sym (c .before .before .before .before .is-constructed .ensures) ∙ c .before .before .before .if3 .left in
+    der-held _ _ _ (c .before .before .before .before .before .before .before .if1 .left) (not-false _ (c .before .before .before .before .before .if2 .left)) k (c .hold .ensures) (c .before .contents-ok .ensures) (c .before .before .contents .ensures)
+
+check-member-is-constructed-requires : (t : ℕ) → check-member-lts.Need-is-constructed-requires (
+  is-constructed-reads.Asked,
+  is-constructed-reads.Learnt,
+  check-element-below t,
+  check-element.Post,
+  contents-reads.Asked,
+  contents-reads.Learnt,
+  contents-ok-reads.Asked,
+  contents-ok-reads.Learnt,
+  hold-reads.Asked,
+  hold-reads.Learnt,
+) (check-member-at t) check-member.Post
+check-member-is-constructed-requires t c κs = search needs
+
+check-member-check-element-requires : (t : ℕ) → check-member-lts.Need-check-element-requires (
+  is-constructed-reads.Asked,
+  is-constructed-reads.Learnt,
+  check-element-below t,
+  check-element.Post,
+  contents-reads.Asked,
+  contents-reads.Learnt,
+  contents-ok-reads.Asked,
+  contents-ok-reads.Learnt,
+  hold-reads.Asked,
+  hold-reads.Learnt,
+) (check-member-at t) check-member.Post
+check-member-check-element-requires t c κs = omega arith
+
+check-member-returns : (t : ℕ) → check-member-lts.Need-returns (
+  is-constructed-reads.Asked,
+  is-constructed-reads.Learnt,
+  check-element-below t,
+  check-element.Post,
+  contents-reads.Asked,
+  contents-reads.Learnt,
+  contents-ok-reads.Asked,
+  contents-ok-reads.Learnt,
+  hold-reads.Asked,
+  hold-reads.Learnt,
+) (check-member-at t) check-member.Post
+check-member-returns t c = c .check-element .ensures
+
+check-member-returns-2 : (t : ℕ) → check-member-lts.Need-returns-2 (
+  is-constructed-reads.Asked,
+  is-constructed-reads.Learnt,
+  check-element-below t,
+  check-element.Post,
+  contents-reads.Asked,
+  contents-reads.Learnt,
+  contents-ok-reads.Asked,
+  contents-ok-reads.Learnt,
+  hold-reads.Asked,
+  hold-reads.Learnt,
+) (check-member-at t) check-member.Post
+check-member-returns-2 t c = sym (der-deep _ _ _ (c .if2 .taken))
+
+check-member-contents-requires : (t : ℕ) → check-member-lts.Need-contents-requires (
+  is-constructed-reads.Asked,
+  is-constructed-reads.Learnt,
+  check-element-below t,
+  check-element.Post,
+  contents-reads.Asked,
+  contents-reads.Learnt,
+  contents-ok-reads.Asked,
+  contents-ok-reads.Learnt,
+  hold-reads.Asked,
+  hold-reads.Learnt,
+) (check-member-at t) check-member.Post
+check-member-contents-requires t c κs = search needs
+
+check-member-contents-ok-requires : (t : ℕ) → check-member-lts.Need-contents-ok-requires (
+  is-constructed-reads.Asked,
+  is-constructed-reads.Learnt,
+  check-element-below t,
+  check-element.Post,
+  contents-reads.Asked,
+  contents-reads.Learnt,
+  contents-ok-reads.Asked,
+  contents-ok-reads.Learnt,
+  hold-reads.Asked,
+  hold-reads.Learnt,
+) (check-member-at t) check-member.Post
+check-member-contents-ok-requires t c κs = search needs
+
+check-member-hold-requires : (t : ℕ) → check-member-lts.Need-hold-requires (
+  is-constructed-reads.Asked,
+  is-constructed-reads.Learnt,
+  check-element-below t,
+  check-element.Post,
+  contents-reads.Asked,
+  contents-reads.Learnt,
+  contents-ok-reads.Asked,
+  contents-ok-reads.Learnt,
+  hold-reads.Asked,
+  hold-reads.Learnt,
+) (check-member-at t) check-member.Post
+check-member-hold-requires t c κs = search needs
+
+check-member-returns-3 : (t : ℕ) → check-member-lts.Need-returns-3 (
+  is-constructed-reads.Asked,
+  is-constructed-reads.Learnt,
+  check-element-below t,
+  check-element.Post,
+  contents-reads.Asked,
+  contents-reads.Learnt,
+  contents-ok-reads.Asked,
+  contents-ok-reads.Learnt,
+  hold-reads.Asked,
+  hold-reads.Learnt,
+) (check-member-at t) check-member.Post
+check-member-returns-3 t c =
+    let k = sym (c .before .before .before .before .before .is-constructed .ensures) ∙ c .before .before .before .before .if1 .left in
+    der-held _ _ _ (c .before .before .before .if2 .left) (c .before .before .before .before .before .before .before .pre .1) k (c .hold .ensures) (c .before .contents-ok .ensures) (c .before .before .contents .ensures)
 
 abbrev check-run-Inv-loop : check-run-lts.InvT-loop
 check-run-Inv-loop s outer depth stop at₀ former₀ at former =
@@ -147,8 +341,8 @@ check-run-no-element-requires : (t : ℕ) → check-run-lts.Need-no-element-requ
   no-element-reads.Learnt,
   element-at-reads.Asked,
   element-at-reads.Learnt,
-  check-element-below t,
-  check-element.Post,
+  check-member-below t,
+  check-member.Post,
   is-sorted-reads.Asked,
   is-sorted-reads.Learnt,
 ) (check-run-at t) check-run.Post check-run-Inv-loop check-run-μ-loop
@@ -159,8 +353,8 @@ check-run-loop-holds : (t : ℕ) → check-run-lts.Need-loop-holds (
   no-element-reads.Learnt,
   element-at-reads.Asked,
   element-at-reads.Learnt,
-  check-element-below t,
-  check-element.Post,
+  check-member-below t,
+  check-member.Post,
   is-sorted-reads.Asked,
   is-sorted-reads.Learnt,
 ) (check-run-at t) check-run.Post check-run-Inv-loop check-run-μ-loop
@@ -173,8 +367,8 @@ check-run-element-at-requires : (t : ℕ) → check-run-lts.Need-element-at-requ
   no-element-reads.Learnt,
   element-at-reads.Asked,
   element-at-reads.Learnt,
-  check-element-below t,
-  check-element.Post,
+  check-member-below t,
+  check-member.Post,
   is-sorted-reads.Asked,
   is-sorted-reads.Learnt,
 ) (check-run-at t) check-run.Post check-run-Inv-loop check-run-μ-loop
@@ -185,8 +379,8 @@ check-run-returns : (t : ℕ) → check-run-lts.Need-returns (
   no-element-reads.Learnt,
   element-at-reads.Asked,
   element-at-reads.Learnt,
-  check-element-below t,
-  check-element.Post,
+  check-member-below t,
+  check-member.Post,
   is-sorted-reads.Asked,
   is-sorted-reads.Learnt,
 ) (check-run-at t) check-run.Post check-run-Inv-loop check-run-μ-loop
@@ -197,25 +391,25 @@ check-run-returns t c =
     let q = c .before .before .element-at .ensures in
     sym (each-broken j (a .s .now) (l .at) (a .outer .stop) (l .former) q (c .before .before .before .loop-test .taken) (not-true _ (c .if1 .taken))) ∙ l .inv
 
-check-run-check-element-requires : (t : ℕ) → check-run-lts.Need-check-element-requires (
+check-run-check-member-requires : (t : ℕ) → check-run-lts.Need-check-member-requires (
   no-element-reads.Asked,
   no-element-reads.Learnt,
   element-at-reads.Asked,
   element-at-reads.Learnt,
-  check-element-below t,
-  check-element.Post,
+  check-member-below t,
+  check-member.Post,
   is-sorted-reads.Asked,
   is-sorted-reads.Learnt,
 ) (check-run-at t) check-run.Post check-run-Inv-loop check-run-μ-loop
-check-run-check-element-requires t c κs = omega arith
+check-run-check-member-requires t c κs = (omega arith, not-false _ (c .if1 .left))
 
 check-run-enum-known-o : (t : ℕ) → check-run-lts.Need-enum-known-o (
   no-element-reads.Asked,
   no-element-reads.Learnt,
   element-at-reads.Asked,
   element-at-reads.Learnt,
-  check-element-below t,
-  check-element.Post,
+  check-member-below t,
+  check-member.Post,
   is-sorted-reads.Asked,
   is-sorted-reads.Learnt,
 ) (check-run-at t) check-run.Post check-run-Inv-loop check-run-μ-loop
@@ -226,8 +420,8 @@ check-run-returns-2 : (t : ℕ) → check-run-lts.Need-returns-2 (
   no-element-reads.Learnt,
   element-at-reads.Asked,
   element-at-reads.Learnt,
-  check-element-below t,
-  check-element.Post,
+  check-member-below t,
+  check-member.Post,
   is-sorted-reads.Asked,
   is-sorted-reads.Learnt,
 ) (check-run-at t) check-run.Post check-run-Inv-loop check-run-μ-loop
@@ -237,7 +431,7 @@ check-run-returns-2 t c =
     let j = memberFit (a .depth) (a .s .now) (a .outer) in
     let q = c .before .before .before .before .before .before .element-at .ensures in
     let g = not-false _ (c .before .before .before .before .if1 .left) in
-    let b = sym (c .before .before .before .check-element .ensures) ∙ c .before .o .given .1 in
+    let b = sym (c .before .before .before .check-member .ensures) ∙ c .before .o .given .1 in
     sym (each-breaks j (a .s .now) (l .at) (a .outer .stop) (l .former) q g (then-breaks _ b)) ∙ l .inv
 
 check-run-enum-told : (t : ℕ) → check-run-lts.Need-enum-told (
@@ -245,8 +439,8 @@ check-run-enum-told : (t : ℕ) → check-run-lts.Need-enum-told (
   no-element-reads.Learnt,
   element-at-reads.Asked,
   element-at-reads.Learnt,
-  check-element-below t,
-  check-element.Post,
+  check-member-below t,
+  check-member.Post,
   is-sorted-reads.Asked,
   is-sorted-reads.Learnt,
 ) (check-run-at t) check-run.Post check-run-Inv-loop check-run-μ-loop
@@ -257,8 +451,8 @@ check-run-is-sorted-requires : (t : ℕ) → check-run-lts.Need-is-sorted-requir
   no-element-reads.Learnt,
   element-at-reads.Asked,
   element-at-reads.Learnt,
-  check-element-below t,
-  check-element.Post,
+  check-member-below t,
+  check-member.Post,
   is-sorted-reads.Asked,
   is-sorted-reads.Learnt,
 ) (check-run-at t) check-run.Post check-run-Inv-loop check-run-μ-loop
@@ -269,8 +463,8 @@ check-run-returns-3 : (t : ℕ) → check-run-lts.Need-returns-3 (
   no-element-reads.Learnt,
   element-at-reads.Asked,
   element-at-reads.Learnt,
-  check-element-below t,
-  check-element.Post,
+  check-member-below t,
+  check-member.Post,
   is-sorted-reads.Asked,
   is-sorted-reads.Learnt,
 ) (check-run-at t) check-run.Post check-run-Inv-loop check-run-μ-loop
@@ -280,7 +474,7 @@ check-run-returns-3 t c =
     let j = memberFit (a .depth) (a .s .now) (a .outer) in
     let q = c .before .before .before .before .before .before .before .element-at .ensures in
     let g = not-false _ (c .before .before .before .before .before .if1 .left) in
-    let f = sym (c .before .before .before .before .check-element .ensures) ∙ c .before .before .enum-told .given .1 in
+    let f = sym (c .before .before .before .before .check-member .ensures) ∙ c .before .before .enum-told .given .1 in
     let b = sym (c .before .is-sorted .ensures) ∙ not-true _ (c .if2 .taken) in
     sym (each-breaks j (a .s .now) (l .at) (a .outer .stop) (l .former) q g (then-fits _ f ∙ held-breaks _ b)) ∙ l .inv
 
@@ -289,8 +483,8 @@ check-run-loop-less : (t : ℕ) → check-run-lts.Need-loop-less (
   no-element-reads.Learnt,
   element-at-reads.Asked,
   element-at-reads.Learnt,
-  check-element-below t,
-  check-element.Post,
+  check-member-below t,
+  check-member.Post,
   is-sorted-reads.Asked,
   is-sorted-reads.Learnt,
 ) (check-run-at t) check-run.Post check-run-Inv-loop check-run-μ-loop
@@ -306,8 +500,8 @@ check-run-loop-again : (t : ℕ) → check-run-lts.Need-loop-again (
   no-element-reads.Learnt,
   element-at-reads.Asked,
   element-at-reads.Learnt,
-  check-element-below t,
-  check-element.Post,
+  check-member-below t,
+  check-member.Post,
   is-sorted-reads.Asked,
   is-sorted-reads.Learnt,
 ) (check-run-at t) check-run.Post check-run-Inv-loop check-run-μ-loop
@@ -317,7 +511,7 @@ check-run-loop-again t c =
     let j = memberFit (a .depth) (a .s .now) (a .outer) in
     let q = c .before .before .before .before .before .before .before .element-at .ensures in
     let g = not-false _ (c .before .before .before .before .before .if1 .left) in
-    let f = sym (c .before .before .before .before .check-element .ensures) ∙ c .before .before .enum-told .given .1 in
+    let f = sym (c .before .before .before .before .check-member .ensures) ∙ c .before .before .enum-told .given .1 in
     let b = sym (c .before .is-sorted .ensures) ∙ not-false _ (c .if2 .left) in
     sym (each-turn j (a .s .now) (l .at) (a .outer .stop) (l .former) q g (then-fits _ f ∙ held-fits _ b)) ∙ l .inv
 
@@ -326,8 +520,8 @@ check-run-returns-4 : (t : ℕ) → check-run-lts.Need-returns-4 (
   no-element-reads.Learnt,
   element-at-reads.Asked,
   element-at-reads.Learnt,
-  check-element-below t,
-  check-element.Post,
+  check-member-below t,
+  check-member.Post,
   is-sorted-reads.Asked,
   is-sorted-reads.Learnt,
 ) (check-run-at t) check-run.Post check-run-Inv-loop check-run-μ-loop
@@ -337,15 +531,20 @@ check-run-returns-4 t c =
     let j = memberFit (a .depth) (a .s .now) (a .outer) in
     sym (each-end j (a .s .now) (l .at) (a .outer .stop) (l .former) (c .loop-test .left)) ∙ l .inv
 
-pub +check-element+check-run-spec : {M : Type 1} → statement M
-+check-element+check-run-spec = close μ-check-element μ-check-run (λ t. check-element-lts.spec (
-  is-constructed-reads.Asked,
-  is-constructed-reads.Learnt,
-  check-run-below t,
-  check-run.Post,
-  check-contents-reads.Asked,
-  check-contents-reads.Learnt,
-)
+pub +check-element+check-member+check-run-spec : {M : Type 1} → statement M
++check-element+check-member+check-run-spec =
+    close μ-check-element μ-check-member μ-check-run (λ t. check-element-lts.spec (
+      is-constructed-reads.Asked,
+      is-constructed-reads.Learnt,
+      check-run-below t,
+      check-run.Post,
+      contents-reads.Asked,
+      contents-reads.Learnt,
+      contents-ok-reads.Asked,
+      contents-ok-reads.Learnt,
+      hold-reads.Asked,
+      hold-reads.Learnt,
+    )
     (check-element-at t)
     check-element.Post
     (check-element-returns t)
@@ -354,15 +553,39 @@ pub +check-element+check-run-spec : {M : Type 1} → statement M
     (check-element-sub-check-run t)
     (check-element-check-run-requires t)
     (check-element-returns-3 t)
-    (check-element-check-contents-requires t)
+    (check-element-contents-requires t)
+    (check-element-contents-ok-requires t)
+    (check-element-hold-requires t)
     (check-element-returns-4 t))
+    (λ t. check-member-lts.spec (
+      is-constructed-reads.Asked,
+      is-constructed-reads.Learnt,
+      check-element-below t,
+      check-element.Post,
+      contents-reads.Asked,
+      contents-reads.Learnt,
+      contents-ok-reads.Asked,
+      contents-ok-reads.Learnt,
+      hold-reads.Asked,
+      hold-reads.Learnt,
+    )
+    (check-member-at t)
+    check-member.Post
+    (check-member-is-constructed-requires t)
+    (check-member-check-element-requires t)
+    (check-member-returns t)
+    (check-member-returns-2 t)
+    (check-member-contents-requires t)
+    (check-member-contents-ok-requires t)
+    (check-member-hold-requires t)
+    (check-member-returns-3 t))
     λ t. check-run-lts.spec (
       no-element-reads.Asked,
       no-element-reads.Learnt,
       element-at-reads.Asked,
       element-at-reads.Learnt,
-      check-element-below t,
-      check-element.Post,
+      check-member-below t,
+      check-member.Post,
       is-sorted-reads.Asked,
       is-sorted-reads.Learnt,
     )
@@ -374,7 +597,7 @@ pub +check-element+check-run-spec : {M : Type 1} → statement M
     (check-run-loop-holds t)
     (check-run-element-at-requires t)
     (check-run-returns t)
-    (check-run-check-element-requires t)
+    (check-run-check-member-requires t)
     (check-run-enum-known-o t)
     (check-run-returns-2 t)
     (check-run-enum-told t)
