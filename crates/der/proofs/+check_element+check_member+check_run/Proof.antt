@@ -71,7 +71,10 @@ abbrev check-run-below : ℕ → In 1 check-run-kinds.ps
 check-run-below t =
     and 1 check-run-kinds.ps (falls 1 check-run-kinds.ps _<_ μ-check-run t) check-run.Pre
 
-check-element-returns : (t : ℕ) → check-element-lts.Need-returns (
+-- what is known of the functions that each of the three calls
+
+abbrev element-claims : ℕ → check-element-lts.Claims
+element-claims t = (
   is-constructed-reads.Asked,
   is-constructed-reads.Learnt,
   check-run-below t,
@@ -82,249 +85,90 @@ check-element-returns : (t : ℕ) → check-element-lts.Need-returns (
   contents-ok-reads.Learnt,
   hold-reads.Asked,
   hold-reads.Learnt,
-) (check-element-at t) check-element.Post
+)
+
+abbrev member-claims : ℕ → check-member-lts.Claims
+member-claims t = (
+  is-constructed-reads.Asked,
+  is-constructed-reads.Learnt,
+  check-element-below t,
+  check-element.Post,
+  contents-reads.Asked,
+  contents-reads.Learnt,
+  contents-ok-reads.Asked,
+  contents-ok-reads.Learnt,
+  hold-reads.Asked,
+  hold-reads.Learnt,
+)
+
+abbrev run-claims : ℕ → check-run-lts.Claims
+run-claims t = (
+  no-element-reads.Asked,
+  no-element-reads.Learnt,
+  element-at-reads.Asked,
+  element-at-reads.Learnt,
+  check-member-below t,
+  check-member.Post,
+  is-sorted-reads.Asked,
+  is-sorted-reads.Learnt,
+)
+
+check-element-returns : (t : ℕ) → check-element-lts.Need-returns (element-claims t) (check-element-at t) check-element.Post
 check-element-returns t c = sym (der-deep _ _ _ (c .if1 .taken))
 
-check-element-returns-2 : (t : ℕ) → check-element-lts.Need-returns-2 (
-  is-constructed-reads.Asked,
-  is-constructed-reads.Learnt,
-  check-run-below t,
-  check-run.Post,
-  contents-reads.Asked,
-  contents-reads.Learnt,
-  contents-ok-reads.Asked,
-  contents-ok-reads.Learnt,
-  hold-reads.Asked,
-  hold-reads.Learnt,
-) (check-element-at t) check-element.Post
+check-element-returns-2 : (t : ℕ) → check-element-lts.Need-returns-2 (element-claims t) (check-element-at t) check-element.Post
 check-element-returns-2 t c = sym (der-bad _ _ _ (not-true _ (c .if2 .taken)))
 
-check-element-is-constructed-requires : (t : ℕ) → check-element-lts.Need-is-constructed-requires (
-  is-constructed-reads.Asked,
-  is-constructed-reads.Learnt,
-  check-run-below t,
-  check-run.Post,
-  contents-reads.Asked,
-  contents-reads.Learnt,
-  contents-ok-reads.Asked,
-  contents-ok-reads.Learnt,
-  hold-reads.Asked,
-  hold-reads.Learnt,
-) (check-element-at t) check-element.Post
+check-element-is-constructed-requires : (t : ℕ) → check-element-lts.Need-is-constructed-requires (element-claims t) (check-element-at t) check-element.Post
 check-element-is-constructed-requires t c κs = search needs
 
-check-element-sub-check-run : (t : ℕ) → check-element-lts.Need-sub-check-run (
-  is-constructed-reads.Asked,
-  is-constructed-reads.Learnt,
-  check-run-below t,
-  check-run.Post,
-  contents-reads.Asked,
-  contents-reads.Learnt,
-  contents-ok-reads.Asked,
-  contents-ok-reads.Learnt,
-  hold-reads.Asked,
-  hold-reads.Learnt,
-) (check-element-at t) check-element.Post
+check-element-sub-check-run : (t : ℕ) → check-element-lts.Need-sub-check-run (element-claims t) (check-element-at t) check-element.Post
 check-element-sub-check-run t c = omega arith
 
-check-element-check-run-requires : (t : ℕ) → check-element-lts.Need-check-run-requires (
-  is-constructed-reads.Asked,
-  is-constructed-reads.Learnt,
-  check-run-below t,
-  check-run.Post,
-  contents-reads.Asked,
-  contents-reads.Learnt,
-  contents-ok-reads.Asked,
-  contents-ok-reads.Learnt,
-  hold-reads.Asked,
-  hold-reads.Learnt,
-) (check-element-at t) check-element.Post
+check-element-check-run-requires : (t : ℕ) → check-element-lts.Need-check-run-requires (element-claims t) (check-element-at t) check-element.Post
 check-element-check-run-requires t c κs = omega arith
 
-check-element-returns-3 : (t : ℕ) → check-element-lts.Need-returns-3 (
-  is-constructed-reads.Asked,
-  is-constructed-reads.Learnt,
-  check-run-below t,
-  check-run.Post,
-  contents-reads.Asked,
-  contents-reads.Learnt,
-  contents-ok-reads.Asked,
-  contents-ok-reads.Learnt,
-  hold-reads.Asked,
-  hold-reads.Learnt,
-) (check-element-at t) check-element.Post
+check-element-returns-3 : (t : ℕ) → check-element-lts.Need-returns-3 (element-claims t) (check-element-at t) check-element.Post
 check-element-returns-3 t c =
     let k = sym (c .before .before .is-constructed .ensures) ∙ c .before .if3 .taken in
     c .check-run .ensures ∙ sym (der-run _ _ _ (c .before .before .before .before .before .if1 .left) (not-false _ (c .before .before .before .if2 .left)) k)
 
-check-element-contents-requires : (t : ℕ) → check-element-lts.Need-contents-requires (
-  is-constructed-reads.Asked,
-  is-constructed-reads.Learnt,
-  check-run-below t,
-  check-run.Post,
-  contents-reads.Asked,
-  contents-reads.Learnt,
-  contents-ok-reads.Asked,
-  contents-ok-reads.Learnt,
-  hold-reads.Asked,
-  hold-reads.Learnt,
-) (check-element-at t) check-element.Post
+check-element-contents-requires : (t : ℕ) → check-element-lts.Need-contents-requires (element-claims t) (check-element-at t) check-element.Post
 check-element-contents-requires t c κs = search needs
 
-check-element-contents-ok-requires : (t : ℕ) → check-element-lts.Need-contents-ok-requires (
-  is-constructed-reads.Asked,
-  is-constructed-reads.Learnt,
-  check-run-below t,
-  check-run.Post,
-  contents-reads.Asked,
-  contents-reads.Learnt,
-  contents-ok-reads.Asked,
-  contents-ok-reads.Learnt,
-  hold-reads.Asked,
-  hold-reads.Learnt,
-) (check-element-at t) check-element.Post
+check-element-contents-ok-requires : (t : ℕ) → check-element-lts.Need-contents-ok-requires (element-claims t) (check-element-at t) check-element.Post
 check-element-contents-ok-requires t c κs = search needs
 
-check-element-hold-requires : (t : ℕ) → check-element-lts.Need-hold-requires (
-  is-constructed-reads.Asked,
-  is-constructed-reads.Learnt,
-  check-run-below t,
-  check-run.Post,
-  contents-reads.Asked,
-  contents-reads.Learnt,
-  contents-ok-reads.Asked,
-  contents-ok-reads.Learnt,
-  hold-reads.Asked,
-  hold-reads.Learnt,
-) (check-element-at t) check-element.Post
+check-element-hold-requires : (t : ℕ) → check-element-lts.Need-hold-requires (element-claims t) (check-element-at t) check-element.Post
 check-element-hold-requires t c κs = search needs
 
-check-element-returns-4 : (t : ℕ) → check-element-lts.Need-returns-4 (
-  is-constructed-reads.Asked,
-  is-constructed-reads.Learnt,
-  check-run-below t,
-  check-run.Post,
-  contents-reads.Asked,
-  contents-reads.Learnt,
-  contents-ok-reads.Asked,
-  contents-ok-reads.Learnt,
-  hold-reads.Asked,
-  hold-reads.Learnt,
-) (check-element-at t) check-element.Post
+check-element-returns-4 : (t : ℕ) → check-element-lts.Need-returns-4 (element-claims t) (check-element-at t) check-element.Post
 check-element-returns-4 t c =
     let k = sym (c .before .before .before .before .is-constructed .ensures) ∙ c .before .before .before .if3 .left in
     der-held _ _ _ (c .before .before .before .before .before .before .before .if1 .left) (not-false _ (c .before .before .before .before .before .if2 .left)) k (c .hold .ensures) (c .before .contents-ok .ensures) (c .before .before .contents .ensures)
 
-check-member-is-constructed-requires : (t : ℕ) → check-member-lts.Need-is-constructed-requires (
-  is-constructed-reads.Asked,
-  is-constructed-reads.Learnt,
-  check-element-below t,
-  check-element.Post,
-  contents-reads.Asked,
-  contents-reads.Learnt,
-  contents-ok-reads.Asked,
-  contents-ok-reads.Learnt,
-  hold-reads.Asked,
-  hold-reads.Learnt,
-) (check-member-at t) check-member.Post
+check-member-is-constructed-requires : (t : ℕ) → check-member-lts.Need-is-constructed-requires (member-claims t) (check-member-at t) check-member.Post
 check-member-is-constructed-requires t c κs = search needs
 
-check-member-check-element-requires : (t : ℕ) → check-member-lts.Need-check-element-requires (
-  is-constructed-reads.Asked,
-  is-constructed-reads.Learnt,
-  check-element-below t,
-  check-element.Post,
-  contents-reads.Asked,
-  contents-reads.Learnt,
-  contents-ok-reads.Asked,
-  contents-ok-reads.Learnt,
-  hold-reads.Asked,
-  hold-reads.Learnt,
-) (check-member-at t) check-member.Post
+check-member-check-element-requires : (t : ℕ) → check-member-lts.Need-check-element-requires (member-claims t) (check-member-at t) check-member.Post
 check-member-check-element-requires t c κs = omega arith
 
-check-member-returns : (t : ℕ) → check-member-lts.Need-returns (
-  is-constructed-reads.Asked,
-  is-constructed-reads.Learnt,
-  check-element-below t,
-  check-element.Post,
-  contents-reads.Asked,
-  contents-reads.Learnt,
-  contents-ok-reads.Asked,
-  contents-ok-reads.Learnt,
-  hold-reads.Asked,
-  hold-reads.Learnt,
-) (check-member-at t) check-member.Post
+check-member-returns : (t : ℕ) → check-member-lts.Need-returns (member-claims t) (check-member-at t) check-member.Post
 check-member-returns t c = c .check-element .ensures
 
-check-member-returns-2 : (t : ℕ) → check-member-lts.Need-returns-2 (
-  is-constructed-reads.Asked,
-  is-constructed-reads.Learnt,
-  check-element-below t,
-  check-element.Post,
-  contents-reads.Asked,
-  contents-reads.Learnt,
-  contents-ok-reads.Asked,
-  contents-ok-reads.Learnt,
-  hold-reads.Asked,
-  hold-reads.Learnt,
-) (check-member-at t) check-member.Post
+check-member-returns-2 : (t : ℕ) → check-member-lts.Need-returns-2 (member-claims t) (check-member-at t) check-member.Post
 check-member-returns-2 t c = sym (der-deep _ _ _ (c .if2 .taken))
 
-check-member-contents-requires : (t : ℕ) → check-member-lts.Need-contents-requires (
-  is-constructed-reads.Asked,
-  is-constructed-reads.Learnt,
-  check-element-below t,
-  check-element.Post,
-  contents-reads.Asked,
-  contents-reads.Learnt,
-  contents-ok-reads.Asked,
-  contents-ok-reads.Learnt,
-  hold-reads.Asked,
-  hold-reads.Learnt,
-) (check-member-at t) check-member.Post
+check-member-contents-requires : (t : ℕ) → check-member-lts.Need-contents-requires (member-claims t) (check-member-at t) check-member.Post
 check-member-contents-requires t c κs = search needs
 
-check-member-contents-ok-requires : (t : ℕ) → check-member-lts.Need-contents-ok-requires (
-  is-constructed-reads.Asked,
-  is-constructed-reads.Learnt,
-  check-element-below t,
-  check-element.Post,
-  contents-reads.Asked,
-  contents-reads.Learnt,
-  contents-ok-reads.Asked,
-  contents-ok-reads.Learnt,
-  hold-reads.Asked,
-  hold-reads.Learnt,
-) (check-member-at t) check-member.Post
+check-member-contents-ok-requires : (t : ℕ) → check-member-lts.Need-contents-ok-requires (member-claims t) (check-member-at t) check-member.Post
 check-member-contents-ok-requires t c κs = search needs
 
-check-member-hold-requires : (t : ℕ) → check-member-lts.Need-hold-requires (
-  is-constructed-reads.Asked,
-  is-constructed-reads.Learnt,
-  check-element-below t,
-  check-element.Post,
-  contents-reads.Asked,
-  contents-reads.Learnt,
-  contents-ok-reads.Asked,
-  contents-ok-reads.Learnt,
-  hold-reads.Asked,
-  hold-reads.Learnt,
-) (check-member-at t) check-member.Post
+check-member-hold-requires : (t : ℕ) → check-member-lts.Need-hold-requires (member-claims t) (check-member-at t) check-member.Post
 check-member-hold-requires t c κs = search needs
 
-check-member-returns-3 : (t : ℕ) → check-member-lts.Need-returns-3 (
-  is-constructed-reads.Asked,
-  is-constructed-reads.Learnt,
-  check-element-below t,
-  check-element.Post,
-  contents-reads.Asked,
-  contents-reads.Learnt,
-  contents-ok-reads.Asked,
-  contents-ok-reads.Learnt,
-  hold-reads.Asked,
-  hold-reads.Learnt,
-) (check-member-at t) check-member.Post
+check-member-returns-3 : (t : ℕ) → check-member-lts.Need-returns-3 (member-claims t) (check-member-at t) check-member.Post
 check-member-returns-3 t c =
     let k = sym (c .before .before .before .before .before .is-constructed .ensures) ∙ c .before .before .before .before .if1 .left in
     der-held _ _ _ (c .before .before .before .if2 .left) (c .before .before .before .before .before .before .before .pre .1) k (c .hold .ensures) (c .before .contents-ok .ensures) (c .before .before .contents .ensures)
@@ -336,54 +180,18 @@ check-run-Inv-loop s outer depth stop at₀ former₀ at former =
 abbrev check-run-μ-loop : check-run-lts.MeasureT-loop
 check-run-μ-loop s outer depth stop at₀ former₀ at former = outer .stop - at
 
-check-run-no-element-requires : (t : ℕ) → check-run-lts.Need-no-element-requires (
-  no-element-reads.Asked,
-  no-element-reads.Learnt,
-  element-at-reads.Asked,
-  element-at-reads.Learnt,
-  check-member-below t,
-  check-member.Post,
-  is-sorted-reads.Asked,
-  is-sorted-reads.Learnt,
-) (check-run-at t) check-run.Post check-run-Inv-loop check-run-μ-loop
+check-run-no-element-requires : (t : ℕ) → check-run-lts.Need-no-element-requires (run-claims t) (check-run-at t) check-run.Post check-run-Inv-loop check-run-μ-loop
 check-run-no-element-requires t c κs = search needs
 
-check-run-loop-holds : (t : ℕ) → check-run-lts.Need-loop-holds (
-  no-element-reads.Asked,
-  no-element-reads.Learnt,
-  element-at-reads.Asked,
-  element-at-reads.Learnt,
-  check-member-below t,
-  check-member.Post,
-  is-sorted-reads.Asked,
-  is-sorted-reads.Learnt,
-) (check-run-at t) check-run.Post check-run-Inv-loop check-run-μ-loop
+check-run-loop-holds : (t : ℕ) → check-run-lts.Need-loop-holds (run-claims t) (check-run-at t) check-run.Post check-run-Inv-loop check-run-μ-loop
 check-run-loop-holds t c =
     let a = c .before .before .args in
     rw (c .no-element .ensures) (each-first (a .outer) (a .s .now) (a .outer .start) (a .depth) (inside (a .s .now) (a .outer)))
 
-check-run-element-at-requires : (t : ℕ) → check-run-lts.Need-element-at-requires (
-  no-element-reads.Asked,
-  no-element-reads.Learnt,
-  element-at-reads.Asked,
-  element-at-reads.Learnt,
-  check-member-below t,
-  check-member.Post,
-  is-sorted-reads.Asked,
-  is-sorted-reads.Learnt,
-) (check-run-at t) check-run.Post check-run-Inv-loop check-run-μ-loop
+check-run-element-at-requires : (t : ℕ) → check-run-lts.Need-element-at-requires (run-claims t) (check-run-at t) check-run.Post check-run-Inv-loop check-run-μ-loop
 check-run-element-at-requires t c κs = search needs
 
-check-run-returns : (t : ℕ) → check-run-lts.Need-returns (
-  no-element-reads.Asked,
-  no-element-reads.Learnt,
-  element-at-reads.Asked,
-  element-at-reads.Learnt,
-  check-member-below t,
-  check-member.Post,
-  is-sorted-reads.Asked,
-  is-sorted-reads.Learnt,
-) (check-run-at t) check-run.Post check-run-Inv-loop check-run-μ-loop
+check-run-returns : (t : ℕ) → check-run-lts.Need-returns (run-claims t) (check-run-at t) check-run.Post check-run-Inv-loop check-run-μ-loop
 check-run-returns t c =
     let a = c .before .before .before .before .before .before .before .args in
     let l = c .before .before .before .before .loop in
@@ -391,40 +199,13 @@ check-run-returns t c =
     let q = c .before .before .element-at .ensures in
     sym (each-broken j (a .s .now) (l .at) (a .outer .stop) (l .former) q (c .before .before .before .loop-test .taken) (not-true _ (c .if1 .taken))) ∙ l .inv
 
-check-run-check-member-requires : (t : ℕ) → check-run-lts.Need-check-member-requires (
-  no-element-reads.Asked,
-  no-element-reads.Learnt,
-  element-at-reads.Asked,
-  element-at-reads.Learnt,
-  check-member-below t,
-  check-member.Post,
-  is-sorted-reads.Asked,
-  is-sorted-reads.Learnt,
-) (check-run-at t) check-run.Post check-run-Inv-loop check-run-μ-loop
+check-run-check-member-requires : (t : ℕ) → check-run-lts.Need-check-member-requires (run-claims t) (check-run-at t) check-run.Post check-run-Inv-loop check-run-μ-loop
 check-run-check-member-requires t c κs = (omega arith, not-false _ (c .if1 .left))
 
-check-run-enum-known-o : (t : ℕ) → check-run-lts.Need-enum-known-o (
-  no-element-reads.Asked,
-  no-element-reads.Learnt,
-  element-at-reads.Asked,
-  element-at-reads.Learnt,
-  check-member-below t,
-  check-member.Post,
-  is-sorted-reads.Asked,
-  is-sorted-reads.Learnt,
-) (check-run-at t) check-run.Post check-run-Inv-loop check-run-μ-loop
+check-run-enum-known-o : (t : ℕ) → check-run-lts.Need-enum-known-o (run-claims t) (check-run-at t) check-run.Post check-run-Inv-loop check-run-μ-loop
 check-run-enum-known-o t c = search needs
 
-check-run-returns-2 : (t : ℕ) → check-run-lts.Need-returns-2 (
-  no-element-reads.Asked,
-  no-element-reads.Learnt,
-  element-at-reads.Asked,
-  element-at-reads.Learnt,
-  check-member-below t,
-  check-member.Post,
-  is-sorted-reads.Asked,
-  is-sorted-reads.Learnt,
-) (check-run-at t) check-run.Post check-run-Inv-loop check-run-μ-loop
+check-run-returns-2 : (t : ℕ) → check-run-lts.Need-returns-2 (run-claims t) (check-run-at t) check-run.Post check-run-Inv-loop check-run-μ-loop
 check-run-returns-2 t c =
     let a = c .before .before .before .before .before .before .before .before .before .before .before .args in
     let l = c .before .before .before .before .before .before .before .before .loop in
@@ -434,40 +215,13 @@ check-run-returns-2 t c =
     let b = sym (c .before .before .before .check-member .ensures) ∙ c .before .o .given .1 in
     sym (each-breaks j (a .s .now) (l .at) (a .outer .stop) (l .former) q g (then-breaks _ b)) ∙ l .inv
 
-check-run-enum-told : (t : ℕ) → check-run-lts.Need-enum-told (
-  no-element-reads.Asked,
-  no-element-reads.Learnt,
-  element-at-reads.Asked,
-  element-at-reads.Learnt,
-  check-member-below t,
-  check-member.Post,
-  is-sorted-reads.Asked,
-  is-sorted-reads.Learnt,
-) (check-run-at t) check-run.Post check-run-Inv-loop check-run-μ-loop
+check-run-enum-told : (t : ℕ) → check-run-lts.Need-enum-told (run-claims t) (check-run-at t) check-run.Post check-run-Inv-loop check-run-μ-loop
 check-run-enum-told t c = search needs
 
-check-run-is-sorted-requires : (t : ℕ) → check-run-lts.Need-is-sorted-requires (
-  no-element-reads.Asked,
-  no-element-reads.Learnt,
-  element-at-reads.Asked,
-  element-at-reads.Learnt,
-  check-member-below t,
-  check-member.Post,
-  is-sorted-reads.Asked,
-  is-sorted-reads.Learnt,
-) (check-run-at t) check-run.Post check-run-Inv-loop check-run-μ-loop
+check-run-is-sorted-requires : (t : ℕ) → check-run-lts.Need-is-sorted-requires (run-claims t) (check-run-at t) check-run.Post check-run-Inv-loop check-run-μ-loop
 check-run-is-sorted-requires t c κs = search needs
 
-check-run-returns-3 : (t : ℕ) → check-run-lts.Need-returns-3 (
-  no-element-reads.Asked,
-  no-element-reads.Learnt,
-  element-at-reads.Asked,
-  element-at-reads.Learnt,
-  check-member-below t,
-  check-member.Post,
-  is-sorted-reads.Asked,
-  is-sorted-reads.Learnt,
-) (check-run-at t) check-run.Post check-run-Inv-loop check-run-μ-loop
+check-run-returns-3 : (t : ℕ) → check-run-lts.Need-returns-3 (run-claims t) (check-run-at t) check-run.Post check-run-Inv-loop check-run-μ-loop
 check-run-returns-3 t c =
     let a = c .before .before .before .before .before .before .before .before .before .before .before .before .args in
     let l = c .before .before .before .before .before .before .before .before .before .loop in
@@ -478,16 +232,7 @@ check-run-returns-3 t c =
     let b = sym (c .before .is-sorted .ensures) ∙ not-true _ (c .if2 .taken) in
     sym (each-breaks j (a .s .now) (l .at) (a .outer .stop) (l .former) q g (then-fits _ f ∙ held-breaks _ b)) ∙ l .inv
 
-check-run-loop-less : (t : ℕ) → check-run-lts.Need-loop-less (
-  no-element-reads.Asked,
-  no-element-reads.Learnt,
-  element-at-reads.Asked,
-  element-at-reads.Learnt,
-  check-member-below t,
-  check-member.Post,
-  is-sorted-reads.Asked,
-  is-sorted-reads.Learnt,
-) (check-run-at t) check-run.Post check-run-Inv-loop check-run-μ-loop
+check-run-loop-less : (t : ℕ) → check-run-lts.Need-loop-less (run-claims t) (check-run-at t) check-run.Post check-run-Inv-loop check-run-μ-loop
 check-run-loop-less t c =
     let a = c .before .before .before .before .before .before .before .before .before .before .before .before .args in
     let l = c .before .before .before .before .before .before .before .before .before .loop in
@@ -495,16 +240,7 @@ check-run-loop-less t c =
     let w = good-within (a .s .now) (l .at) (a .outer .stop) q (not-false _ (c .before .before .before .before .before .if1 .left)) in
     omega (arith, w)
 
-check-run-loop-again : (t : ℕ) → check-run-lts.Need-loop-again (
-  no-element-reads.Asked,
-  no-element-reads.Learnt,
-  element-at-reads.Asked,
-  element-at-reads.Learnt,
-  check-member-below t,
-  check-member.Post,
-  is-sorted-reads.Asked,
-  is-sorted-reads.Learnt,
-) (check-run-at t) check-run.Post check-run-Inv-loop check-run-μ-loop
+check-run-loop-again : (t : ℕ) → check-run-lts.Need-loop-again (run-claims t) (check-run-at t) check-run.Post check-run-Inv-loop check-run-μ-loop
 check-run-loop-again t c =
     let a = c .before .before .before .before .before .before .before .before .before .before .before .before .args in
     let l = c .before .before .before .before .before .before .before .before .before .loop in
@@ -515,16 +251,7 @@ check-run-loop-again t c =
     let b = sym (c .before .is-sorted .ensures) ∙ not-false _ (c .if2 .left) in
     sym (each-turn j (a .s .now) (l .at) (a .outer .stop) (l .former) q g (then-fits _ f ∙ held-fits _ b)) ∙ l .inv
 
-check-run-returns-4 : (t : ℕ) → check-run-lts.Need-returns-4 (
-  no-element-reads.Asked,
-  no-element-reads.Learnt,
-  element-at-reads.Asked,
-  element-at-reads.Learnt,
-  check-member-below t,
-  check-member.Post,
-  is-sorted-reads.Asked,
-  is-sorted-reads.Learnt,
-) (check-run-at t) check-run.Post check-run-Inv-loop check-run-μ-loop
+check-run-returns-4 : (t : ℕ) → check-run-lts.Need-returns-4 (run-claims t) (check-run-at t) check-run.Post check-run-Inv-loop check-run-μ-loop
 check-run-returns-4 t c =
     let a = c .before .before .before .before .args in
     let l = c .before .loop in
@@ -533,18 +260,7 @@ check-run-returns-4 t c =
 
 pub +check-element+check-member+check-run-spec : {M : Type 1} → statement M
 +check-element+check-member+check-run-spec =
-    close μ-check-element μ-check-member μ-check-run (λ t. check-element-lts.spec (
-      is-constructed-reads.Asked,
-      is-constructed-reads.Learnt,
-      check-run-below t,
-      check-run.Post,
-      contents-reads.Asked,
-      contents-reads.Learnt,
-      contents-ok-reads.Asked,
-      contents-ok-reads.Learnt,
-      hold-reads.Asked,
-      hold-reads.Learnt,
-    )
+    close μ-check-element μ-check-member μ-check-run (λ t. check-element-lts.spec (element-claims t)
     (check-element-at t)
     check-element.Post
     (check-element-returns t)
@@ -557,18 +273,7 @@ pub +check-element+check-member+check-run-spec : {M : Type 1} → statement M
     (check-element-contents-ok-requires t)
     (check-element-hold-requires t)
     (check-element-returns-4 t))
-    (λ t. check-member-lts.spec (
-      is-constructed-reads.Asked,
-      is-constructed-reads.Learnt,
-      check-element-below t,
-      check-element.Post,
-      contents-reads.Asked,
-      contents-reads.Learnt,
-      contents-ok-reads.Asked,
-      contents-ok-reads.Learnt,
-      hold-reads.Asked,
-      hold-reads.Learnt,
-    )
+    (λ t. check-member-lts.spec (member-claims t)
     (check-member-at t)
     check-member.Post
     (check-member-is-constructed-requires t)
@@ -579,16 +284,7 @@ pub +check-element+check-member+check-run-spec : {M : Type 1} → statement M
     (check-member-contents-ok-requires t)
     (check-member-hold-requires t)
     (check-member-returns-3 t))
-    λ t. check-run-lts.spec (
-      no-element-reads.Asked,
-      no-element-reads.Learnt,
-      element-at-reads.Asked,
-      element-at-reads.Learnt,
-      check-member-below t,
-      check-member.Post,
-      is-sorted-reads.Asked,
-      is-sorted-reads.Learnt,
-    )
+    λ t. check-run-lts.spec (run-claims t)
     (check-run-at t)
     check-run.Post
     check-run-Inv-loop
