@@ -92,22 +92,8 @@ struct Faults {
     octets: bool,
 }
 
-// RFC 6010, 2, and 01, Rights: the contents of their OIDs.
+// RFC 6010: id-pe-cmsContentConstraints, 1.3.6.1.5.5.7.1.18.
 const ID_PE_CMS_CONTENT_CONSTRAINTS: [u8; 8] = [0x2B, 0x06, 0x01, 0x05, 0x05, 0x07, 0x01, 0x12];
-
-const ANY_CONTENT_TYPE: [u8; 11] = [
-    0x2A,
-    0x86,
-    0x48,
-    0x86,
-    0xF7,
-    0x0D,
-    0x01,
-    0x09,
-    0x10,
-    0x01,
-    0x00,
-];
 
 // The element that octets by themselves are.
 fn root(t: &[u8]) -> Element
@@ -399,7 +385,7 @@ fn attributes_faults(v: &[u8], list: Element) -> Faults
 fn is_unlike(v: &[u8], e: Element) -> bool
     ensures { λ r. ⌜ r ≡ isUnlike (contentTypeConstraint (now (v .entry)) e) ⌝ }
 {
-    if !octets::equal(type_of(v, e), &ANY_CONTENT_TYPE) {
+    if !octets::equal(type_of(v, e), &rights::ANY_CONTENT_TYPE) {
         return false;
     }
     let generation = der::field(v, e, 0x0A);

@@ -28,11 +28,6 @@ use syntax::Form;
 use syntax::Recognised;
 use syntax::TampType;
 
-// RFC 5652, 11.1 and 11.2: 1.2.840.113549.1.9.3 and 1.2.840.113549.1.9.4.
-const ID_CONTENT_TYPE: [u8; 9] = [42, 134, 72, 134, 247, 13, 1, 9, 3];
-
-const ID_MESSAGE_DIGEST: [u8; 9] = [42, 134, 72, 134, 247, 13, 1, 9, 4];
-
 // What the wrapper holds, as parts of the message.
 pub struct Signed {
     pub kind: TampType,
@@ -170,10 +165,10 @@ pub fn attr_type(s: &[u8], e: Element) -> &[u8]
 fn form_of(o: &[u8]) -> AttributeForm
     ensures { λ r. ⌜ ((type : List ℕ) → attributeSyntax r type ≡ tagged 0x30 (Attribute (valueSyntax type (now (o .entry))))) ⌝ }
 {
-    if octets::equal(o, &ID_CONTENT_TYPE) {
+    if octets::equal(o, &syntax::ID_CONTENT_TYPE) {
         return AttributeForm::ContentType;
     }
-    if octets::equal(o, &ID_MESSAGE_DIGEST) {
+    if octets::equal(o, &syntax::ID_MESSAGE_DIGEST) {
         return AttributeForm::MessageDigest;
     }
     AttributeForm::Other
@@ -258,10 +253,20 @@ fn attributes_fit(about: &[u8], s: &[u8], signer: Element, attributes: Element) 
     if let Fit::Breaks(o) = each_attribute(about, s, attributes) {
         return Fit::Breaks(o);
     }
-    if !has_type(&ID_CONTENT_TYPE, s, attributes.start, attributes.stop) {
+    if !has_type(
+        &syntax::ID_CONTENT_TYPE,
+        s,
+        attributes.start,
+        attributes.stop,
+    ) {
         return Fit::Breaks(attributes.at);
     }
-    if !has_type(&ID_MESSAGE_DIGEST, s, attributes.start, attributes.stop) {
+    if !has_type(
+        &syntax::ID_MESSAGE_DIGEST,
+        s,
+        attributes.start,
+        attributes.stop,
+    ) {
         return Fit::Breaks(attributes.at);
     }
     Fit::Fits

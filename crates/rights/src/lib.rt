@@ -84,8 +84,8 @@ pub enum Answer {
     Outside(Lister, Excess),
 }
 
-// 1.2.840.113549.1.9.16.1.0
-const ANY_CONTENT_TYPE: [u8; 11] = [
+// RFC 6010: id-ct-anyContentType, 1.2.840.113549.1.9.16.1.0.
+pub const ANY_CONTENT_TYPE: [u8; 11] = [
     0x2A,
     0x86,
     0x48,
@@ -98,11 +98,6 @@ const ANY_CONTENT_TYPE: [u8; 11] = [
     0x01,
     0x00,
 ];
-
-// content-type and message-digest: 1.2.840.113549.1.9.3 and .4
-const CONTENT_TYPE: [u8; 9] = [0x2A, 0x86, 0x48, 0x86, 0xF7, 0x0D, 0x01, 0x09, 0x03];
-
-const MESSAGE_DIGEST: [u8; 9] = [0x2A, 0x86, 0x48, 0x86, 0xF7, 0x0D, 0x01, 0x09, 0x04];
 
 // The constraints that the apex stands for: DER of one entry, for anyContentType.
 pub fn everything() -> [u8; 17]
@@ -223,11 +218,11 @@ fn lists(v: &[u8], constraint: Element, value: &[u8]) -> bool
 fn is_weighed(s: &[u8], e: Element) -> bool
     ensures { λ r. ⌜ r ≡ weighed (now (s .entry)) e ⌝ }
 {
-    let a = CONTENT_TYPE;
+    let a = syntax::ID_CONTENT_TYPE;
     if octets::equal(type_in(s, e), &a) {
         return false;
     }
-    let b = MESSAGE_DIGEST;
+    let b = syntax::ID_MESSAGE_DIGEST;
     !octets::equal(type_in(s, e), &b)
 }
 

@@ -86,7 +86,11 @@ const SEQ_NUMBER: usize = 6;
 // The first row is free.
 const FREE_ROW: usize = 0;
 
-// RFC 5652: id-signedData.
+// RFC 5652: the attribute types id-contentType and id-messageDigest, 1.2.840.113549.1.9.3 and .4; id-signedData, 1.2.840.113549.1.7.2.
+pub const ID_CONTENT_TYPE: [u8; 9] = [0x2A, 0x86, 0x48, 0x86, 0xF7, 0x0D, 0x01, 0x09, 0x03];
+
+pub const ID_MESSAGE_DIGEST: [u8; 9] = [0x2A, 0x86, 0x48, 0x86, 0xF7, 0x0D, 0x01, 0x09, 0x04];
+
 const ID_SIGNED_DATA: [u8; 9] = [0x2A, 0x86, 0x48, 0x86, 0xF7, 0x0D, 0x01, 0x07, 0x02];
 
 // RFC 5934: the four TAMP types, a row of ten octets each.
