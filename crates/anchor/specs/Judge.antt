@@ -1,7 +1,7 @@
 -- 01, After acceptance, add: the checks up to status 17 for size, in order; and The store image: a stored TrustAnchorInfo.
 use Prim.Native.Nat.{ℕ}
-use mathlib.Core.Bool.{Bool, true, false, not, _&&_, _||_}
-use mathlib.Core.List.{List, [], _∷_, map}
+use mathlib.Core.Bool.{Bool, not, _&&_}
+use mathlib.Core.List.{List, map}
 use lib.ListN.{length}
 use lib.Dec.{leb, ltb, eqb}
 use Rattle.octets.specs.declared.Status.{Status}
@@ -11,11 +11,10 @@ use Rattle.octets.specs.First.{givenIf}
 use Rattle.octets.specs.Lists.{allOf, anyOf}
 use Rattle.octets.specs.Octets.{same, distinct}
 use Rattle.der.specs.Fit.{andThen, kept}
-use Rattle.der.specs.declared.Fit.{Fit}
 use Rattle.der.specs.Check.{spans}
 use Rattle.syntax.specs.Grammar.{Syntax, fit}
 use Rattle.syntax.specs.Asn.{StoredTrustAnchorInfo, CMSContentConstraints}
-use Rattle.rights.specs.Rights.{Key, Entry, Rights, anyContentType}
+use Rattle.rights.specs.Rights.{Key, Rights, anyContentType}
 use Rattle.anchor.specs.declared.Judged.{Judged}
 use Rattle.anchor.specs.declared.Judged.the-variants as judged
 use Rattle.anchor.specs.Info.{version, keyIdentifier, certPath, extensions, extnID, critical, isConstraints, hasConstraints, constraintsValue, rightsOf}

@@ -6,7 +6,7 @@ use lib.Dec.{ltb, eqb}
 use Rattle.octets.specs.Octets.{ordered}
 use Rattle.der.specs.declared.Element.{Element}
 use Rattle.der.specs.declared.Fit.{Fit}
-use Rattle.der.specs.declared.Fit.the-variants.{Fits, Breaks}
+use Rattle.der.specs.declared.Fit.the-variants.{Breaks}
 use Rattle.der.specs.Element.{elementAt, inside, whole, contents, constructed}
 use Rattle.der.specs.Fit.{andThen, held, each}
 use Rattle.der.specs.Contents.{contentsOk}

@@ -1,12 +1,12 @@
 -- 01, Answers, status 7: the signed attributes.
 use Prim.Native.Nat.{ℕ}
 use mathlib.Core.Bool.{Bool, true, false, not, _&&_}
-use mathlib.Core.List.{List, [], _∷_, map}
+use mathlib.Core.List.{List, map}
 use Rattle.octets.specs.Lists.{anyOf}
 use Rattle.octets.specs.Octets.{same, member, ordered}
 use Rattle.der.specs.declared.Element.{Element}
 use Rattle.der.specs.declared.Fit.{Fit}
-use Rattle.der.specs.declared.Fit.the-variants.{Fits, Breaks}
+use Rattle.der.specs.declared.Fit.the-variants.{Breaks}
 use Rattle.der.specs.Element.{elements, whole, inside}
 use Rattle.der.specs.Fit.{andThen, held, each}
 use Rattle.syntax.specs.Grammar.{Syntax, free, obeys, tagged, equals, fit}

@@ -17,7 +17,7 @@ use Rattle.der.specs.Fit.{andThen, kept}
 use Rattle.der.specs.Check.{der, spans}
 use Rattle.der.proofs.Fits.{then-fits}
 use Rattle.der.proofs.Elements.{good-within, elements-turn}
-use Rattle.syntax.specs.Grammar.{end, obeys, one, many, required, notEmpty, fit}
+use Rattle.syntax.specs.Grammar.{end, obeys, many, required, notEmpty, fit}
 use Rattle.syntax.specs.Asn.{TrustAnchorUpdate, TrustAnchorChoice, TrustAnchorInfo, StoredTrustAnchorInfo}
 use Rattle.syntax.specs.declared.TampType.the-variants.{Update}
 use Rattle.syntax.proofs.Each.{Every, every-weaken, every-both, every-map}

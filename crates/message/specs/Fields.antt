@@ -1,7 +1,7 @@
 -- The fields of the four messages (RFC 5934, appendix A.1) in a message s, where row 36 has found the syntax right.
 use Prim.Native.Nat.{ℕ}
-use mathlib.Core.Bool.{Bool, true, false}
-use mathlib.Core.List.{List, [], _∷_, map}
+use mathlib.Core.Bool.{true, false}
+use mathlib.Core.List.{List, _∷_, map}
 use lib.ListN.{drop}
 use lib.Dec.{eqb}
 use Rattle.octets.specs.Number.{number}

@@ -8,7 +8,6 @@ use Rattle.octets.specs.First.{givenIf}
 use Rattle.octets.specs.Limits.{maxDepth}
 use Rattle.der.specs.declared.Element.{Element}
 use Rattle.der.specs.declared.Fit.{Fit}
-use Rattle.der.specs.declared.Fit.the-variants.{Fits, Breaks}
 use Rattle.der.specs.Element.{absent}
 use Rattle.der.specs.Fit.{andThen, givenAt}
 use Rattle.der.specs.Check.{spans}
@@ -17,11 +16,9 @@ use Rattle.syntax.specs.declared.TampType.the-variants.{StatusQuery, Update, Co
 use Rattle.syntax.specs.Grammar.{fit}
 use Rattle.syntax.specs.Types.{syntaxOf}
 use Rattle.envelope.specs.declared.Signed.{Signed}
-use Rattle.envelope.specs.declared.Refusal.{Refusal}
 use Rattle.envelope.specs.declared.Envelope.{Envelope}
 use Rattle.envelope.specs.declared.Envelope.the-variants as envelope
 use Rattle.envelope.specs.Rows.{envelope}
-use Rattle.message.specs.declared.Request.{Request}
 use Rattle.message.specs.declared.Received.{Received}
 use Rattle.message.specs.declared.Received.the-variants.{Asks, Refused}
 use Rattle.message.specs.Fields.{bodyIn, msgRefIn, versionIn, terseIn}

@@ -1,5 +1,4 @@
 -- The numbers of 01, "Answers", under the names of RFC 5934, StatusCode; each is the associated constant of `Status` that bears its name.
-use Prim.Native.Nat.{ℕ}
 use Rattle.octets.specs.declared.Status.{Status}
 
 abbrev pub success : Status

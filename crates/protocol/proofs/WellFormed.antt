@@ -34,8 +34,7 @@ use Rattle.message.specs.Fields.{seqNumIn, updatesIn, entriesIn, seqNumbersIn, 
 use Rattle.message.specs.Rows.{received}
 use Rattle.message.proofs.Entries.{Adding}
 use Rattle.message.proofs.Asked.{asked-number, asked-adds, asked-seqNumbers, asked-additions}
-use Rattle.protocol.specs.declared.Judgement.{Judgement}
-use Rattle.protocol.specs.declared.Judgement.the-variants.{Refuses, Accepts}
+use Rattle.protocol.specs.declared.Judgement.the-variants.{Accepts}
 use Rattle.protocol.specs.Acceptance.{judgement, rightsAt}
 use Rattle.protocol.specs.Update.{Step, unnumbered, added, hasKey, removed, step, steps, numbered, stamped, allStamped}
 use Rattle.protocol.specs.Community.{afterRemovals, afterAdditions, updated, communityStatus, communitiesAfter}

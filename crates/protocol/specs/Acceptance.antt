@@ -1,10 +1,10 @@
 -- 01, Answers: the rows 10, 16, 38, 23, 11 and 21, and acceptance.
-use Prim.Native.Nat.{ℕ, zero, suc}
+use Prim.Native.Nat.{ℕ}
 use mathlib.Core.Bool.{Bool, true, false, not}
-use mathlib.Core.List.{List, [], _∷_}
+use mathlib.Core.List.{List}
 use mathlib.Core.Option.{Option, none, some}
 use lib.ListN.{getD}
-use lib.Dec.{leb, ltb, eqb}
+use lib.Dec.{leb, ltb}
 use Rattle.octets.specs.declared.Status.{Status}
 use Rattle.octets.specs.Status.{success, noTrustAnchor, signatureFailure, notAuthorized, seqNumFailure}
 use Rattle.octets.specs.First.{givenIf}
@@ -14,9 +14,8 @@ use Rattle.syntax.specs.declared.TampType.the-variants.{StatusQuery, Update, Co
 use Rattle.rights.specs.Rights.{Rights, Content, source, nothing, authorises}
 use Rattle.store.specs.declared.Found.{Found}
 use Rattle.store.specs.declared.Found.the-variants as found
-use Rattle.store.specs.Store.{Anchor, Store, anchors, identifiers, rightsIn}
+use Rattle.store.specs.Store.{Store, anchors, identifiers, rightsIn}
 use Rattle.store.specs.Signer.{signer}
-use Rattle.envelope.specs.declared.Refusal.{Refusal}
 use Rattle.rights.specs.Attributes.{pairs}
 use Rattle.message.specs.declared.Request.{Request}
 use Rattle.message.specs.declared.Received.{Received}

@@ -1,7 +1,7 @@
 -- 01, Answers: the call.
 use Prim.Native.Nat.{ℕ}
 use mathlib.Core.Bool.{Bool, true, false, not, _&&_, _||_}
-use mathlib.Core.List.{List, [], _∷_}
+use mathlib.Core.List.{List, []}
 use mathlib.Core.Option.{Option, none, some}
 use lib.ListN.{length}
 use lib.Dec.{leb, ltb, eqb}
@@ -10,7 +10,7 @@ use Rattle.octets.specs.Status.{badImage, badVerdict, smallBuffer, longMessage,
 use Rattle.octets.specs.Limits.{replyRoom, imageRoom, maxMessage}
 use Rattle.octets.specs.First.{givenIf}
 use Rattle.octets.specs.Lists.{allOf}
-use Rattle.octets.specs.Octets.{placed, written}
+use Rattle.octets.specs.Octets.{written}
 use Rattle.der.specs.Element.{whole, contents}
 use Rattle.store.specs.Store.{Store, anchors}
 use Rattle.store.specs.Image.{encode, decode}
@@ -19,7 +19,7 @@ use Rattle.reply.specs.Replies.{tampError}
 use Rattle.protocol.specs.declared.Judgement.{Judgement}
 use Rattle.protocol.specs.declared.Judgement.the-variants.{Refuses, Accepts}
 use Rattle.protocol.specs.Acceptance.{judgement}
-use Rattle.protocol.specs.Effect.{Effect, effect}
+use Rattle.protocol.specs.Effect.{effect}
 
 -- a house refusal ("both lengths 0, nothing written"), or an answer with a TAMP status, the reply and the next store
 pub data Outcome : Type 0 where

@@ -1,6 +1,6 @@
 -- Demand 3: over any list of calls, where no accepted message's signer authorised a content, the anchors that authorise it stay as they were, to the last byte.
 use Prim.Native.Nat.{ℕ}
-use mathlib.Core.Bool.{Bool, true, false}
+use mathlib.Core.Bool.{false}
 use mathlib.Core.List.{List, [], _∷_}
 use mathlib.Core.Option.{Option, none, some}
 use mathlib.Core.Path.{_≡_}

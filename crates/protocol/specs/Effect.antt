@@ -1,6 +1,6 @@
 -- 01, After acceptance: what an accepted message does to the store, and its reply.
 use Prim.Native.Nat.{ℕ, zero, suc}
-use mathlib.Core.Bool.{Bool, true, false}
+use mathlib.Core.Bool.{true, false}
 use mathlib.Core.List.{List, [], _∷_, _++_}
 use lib.ListN.{length}
 use lib.Dec.{ltb}
@@ -8,13 +8,11 @@ pub use Rattle.edit.specs.Steps.{withOthers, withCommunities}
 use Rattle.octets.specs.declared.Status.{Status}
 use Rattle.octets.specs.Status.{success, insufficientMemory}
 use Rattle.octets.specs.Limits.{maxUpdates}
-use Rattle.der.specs.declared.Element.{Element}
 use Rattle.der.specs.Element.{whole, contents}
 use Rattle.syntax.specs.declared.TampType.{TampType}
 use Rattle.syntax.specs.declared.TampType.the-variants.{StatusQuery, Update, CommunityUpdate, SeqNumAdjust}
 use Rattle.store.specs.Store.{Anchor, Store, identifiers}
 use Rattle.message.specs.declared.Request.{Request}
-use Rattle.message.specs.declared.Entry.{Entry}
 use Rattle.message.specs.Fields.{seqNumIn, updatesIn, entriesIn, seqNumbersIn, removeIn, oidsIn, additionsIn}
 use Rattle.reply.specs.Replies.{tampError, statusResponse, updateConfirm, communityConfirm, adjustConfirm}
 use Rattle.rights.specs.Rights.{Rights}

@@ -4,7 +4,6 @@ use Prim.Native.Nat.{ℕ}
 use mathlib.Core.List.{List, [], _∷_, _++_}
 use mathlib.Core.Path.{_≡_}
 use lib.ListN.{set}
-use Rattle.octets.specs.declared.Status.{Status}
 use Rattle.octets.specs.Limits.{replyRoom, imageRoom}
 use Rattle.octets.specs.Ascii.{ascii, octetsOf}
 use Rattle.rights.specs.Examples.{P1-P10}

@@ -5,7 +5,7 @@ use mathlib.Core.Bool.{Bool, true, false, not}
 use mathlib.Core.List.{List, [], _∷_}
 use mathlib.Core.Option.{Option, orElse}
 use mathlib.Core.Path.{_≡_, refl, sym, ap, _∙_}
-use lib.ListN.{getD, take, drop}
+use lib.ListN.{getD, drop}
 use borrow.Author.Tests.{not-true, not-false}
 use Rattle.octets.specs.Lists.{anyOf}
 use Rattle.octets.specs.Octets.{Octets, part, same, member}
@@ -13,7 +13,6 @@ use Rattle.octets.proofs.Lists.{≢→same}
 use Rattle.octets.proofs.Number.{octets-take, octets-drop}
 use Rattle.der.specs.declared.Element.{Element}
 use Rattle.der.specs.Element.{elementAt, elements, root, whole, inside, field}
-use Rattle.rights.specs.declared.Found.{Found}
 use Rattle.rights.specs.declared.Found.the-variants.{At, Nowhere}
 use Rattle.rights.specs.Rights.{Key}
 use Rattle.rights.specs.Decision.{oid, integer, fresh, keys, findSome, unlisted, listedTypes}

@@ -1,6 +1,6 @@
 -- The constraints that the apex stands for, so that its rights are read as any other anchor's.
 use Prim.Native.Nat.{ℕ}
-use mathlib.Core.List.{List, [], _∷_, _++_}
+use mathlib.Core.List.{List, _∷_}
 use Rattle.rights.specs.Rights.{anyContentType}
 
 -- 01: "The apex authorises everything": DER of { { anyContentType } }

@@ -1,6 +1,6 @@
 -- What a case asks: the rights of an anchor that is or is not the apex, and whether a content is authorised.
 use Prim.Native.Nat.{ℕ, _+_, min}
-use mathlib.Core.Bool.{Bool, true, false}
+use mathlib.Core.Bool.{true, false}
 use mathlib.Core.List.{List}
 use lib.ListN.{length, take, drop}
 use lib.Dec.{eqb}

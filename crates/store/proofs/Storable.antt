@@ -12,7 +12,6 @@ use Rattle.der.specs.Fit.{andThen}
 use Rattle.der.specs.Check.{spans}
 use Rattle.syntax.specs.Asn.{StoredTrustAnchorInfo}
 use Rattle.anchor.specs.declared.Judged.{Judged}
-use Rattle.anchor.specs.declared.Judged.the-variants as judged
 use Rattle.anchor.specs.Judge.{statusOf, passes, conforms, judge, storable}
 
 -- an empty string is no element

@@ -1,10 +1,10 @@
 -- 01, The store image: reading and writing it. Status 201 is "decode gives nothing".
 use Prim.Native.Nat.{ℕ, zero, suc, _+_, _-_}
-use mathlib.Core.Bool.{Bool, true, false, not, _&&_, _||_}
+use mathlib.Core.Bool.{Bool, true, false, _&&_, _||_}
 use mathlib.Core.List.{List, [], _∷_, _++_, map, flatMap}
 use mathlib.Core.Option.{Option, none, some, Option·elim}
 use lib.ListN.{length, take, drop}
-use lib.Dec.{leb, ltb, eqb}
+use lib.Dec.{leb, eqb}
 use Rattle.octets.specs.Limits.{maxAnchors, maxCommunities, maxName, maxAnchorOctets, maxNumber}
 use Rattle.octets.specs.Lists.{allOf}
 use Rattle.octets.specs.Octets.{distinct}

@@ -1,9 +1,9 @@
 -- 01, Answers: "The signer is the first anchor with the identifier and verdict 1."
-use Prim.Native.Nat.{ℕ, zero, suc}
-use mathlib.Core.Bool.{Bool, true, false, _&&_}
+use Prim.Native.Nat.{ℕ, suc}
+use mathlib.Core.Bool.{true, false}
 use mathlib.Core.List.{List, [], _∷_}
 use lib.Dec.{eqb}
-use Rattle.octets.specs.Octets.{same, member, octet}
+use Rattle.octets.specs.Octets.{same, octet}
 use Rattle.store.specs.declared.Found.{Found}
 use Rattle.store.specs.declared.Found.the-variants.{At, Unverified, Unknown}
 

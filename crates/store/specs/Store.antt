@@ -1,6 +1,6 @@
 -- 01, The store image: what an image holds.
 use Prim.Native.Nat.{ℕ}
-use mathlib.Core.List.{List, [], _∷_, map}
+use mathlib.Core.List.{List, _∷_, map}
 use mathlib.Core.Option.{Option}
 use Rattle.rights.specs.Rights.{Rights, everything}
 use Rattle.anchor.specs.Info.{keyIdentifier, publicKey, rightsOf}

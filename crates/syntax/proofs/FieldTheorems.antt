@@ -6,9 +6,9 @@ use mathlib.Core.List.{List}
 use mathlib.Core.Path.{_≡_}
 use Rattle.der.specs.declared.Fit.the-variants.{Fits}
 use Rattle.der.specs.Element.{absent, elements, withTag}
-use Rattle.syntax.specs.Grammar.{Syntax, free, end, obeys, one, many, required, tagged, notEmpty, fit}
+use Rattle.syntax.specs.Grammar.{Syntax, free, end, obeys, one, many, required, notEmpty, fit}
 use Rattle.syntax.specs.Asn.{SignedData, EncapsulatedContentInfo, SignerInfo, SubjectPublicKeyInfo, Extensions, Extension, TrustAnchorInfo}
-use Rattle.syntax.specs.Asn.{TAMPMsgRef, TAMPSequenceNumber, CommunityUpdates, CommunityIdentifierList, HardwareModules, HardwareSerialEntry}
+use Rattle.syntax.specs.Asn.{TAMPSequenceNumber, CommunityUpdates, CommunityIdentifierList, HardwareModules, HardwareSerialEntry}
 use Rattle.syntax.specs.Asn.{AttrConstraint, AttrConstraintList, ContentTypeConstraint, Attribute}
 use Rattle.syntax.proofs.Fields.{Found, placed, fieldIn, lacks, onlyField}
 

@@ -10,7 +10,7 @@ use Rattle.octets.proofs.Lists.{by-test}
 use Rattle.der.specs.declared.Element.{Element}
 use Rattle.der.specs.declared.Fit.the-variants.{Fits, Breaks}
 use Rattle.der.specs.Element.{elementAt, elements}
-use Rattle.der.specs.Fit.{andThen, held, each}
+use Rattle.der.specs.Fit.{andThen, held}
 use Rattle.syntax.specs.Grammar.{Rule, obeyed, Syntax, end, obeys, optional, one, anyOptional, many, fit}
 use Rattle.syntax.proofs.Each.{on, off, Every, every-member, then-both, held-true, breaks≢fits}
 

@@ -8,7 +8,7 @@ use lib.Dec.{leb, eqb}
 use borrow.Author.Tests.{leb-true, eqb-true, eqb-false}
 use Rattle.octets.proofs.Lists.{by-test}
 use Rattle.der.specs.declared.Fit.the-variants.{Fits}
-use Rattle.syntax.specs.Grammar.{Syntax, free, fit}
+use Rattle.syntax.specs.Grammar.{free, fit}
 use Rattle.syntax.specs.Table.{count, rows}
 use Rattle.syntax.specs.Rows.{kindOf, argumentOf, bodyOf, nextOf, rowSyntax, grown, grammarOf}
 

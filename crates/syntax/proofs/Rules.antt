@@ -9,7 +9,7 @@ use lib.ListN.{length, drop}
 use lib.Dec.{leb, ltb, lit<, lit≤}
 use borrow.Author.Tests.{leb-true, ltb-true}
 use Rattle.octets.specs.Limits.{maxNumber}
-use Rattle.octets.specs.Octets.{Octets, octet, part}
+use Rattle.octets.specs.Octets.{Octets, part}
 use Rattle.octets.specs.Number.{numberFrom, number}
 use Rattle.octets.proofs.Number.{number-below, octets-take, octets-drop}
 use Rattle.syntax.specs.Grammar.{obeyed, seqNumber}

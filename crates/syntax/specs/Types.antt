@@ -1,6 +1,6 @@
 -- Object identifiers of the RFCs, and the four TAMP types of 01.
 use Prim.Native.Nat.{ℕ}
-use mathlib.Core.Bool.{Bool, true, false}
+use mathlib.Core.Bool.{true, false}
 use mathlib.Core.List.{List, [], _∷_}
 use Rattle.octets.specs.Octets.{same}
 use Rattle.der.specs.Oid.{oid}

@@ -8,7 +8,7 @@ use borrow.Author.Tests.{le-leb, lt-leb}
 use Rattle.octets.specs.Octets.{placed}
 use Rattle.octets.proofs.Placed.{take-behind-placed}
 use Rattle.store.specs.Records.{recordsOf}
-use Rattle.protocol.specs.Call.{Outcome, refused, answered, numberOf, replyOf, nextOf, replyBuffer, nextBuffer, call}
+use Rattle.protocol.specs.Call.{Outcome, refused, answered, numberOf, replyOf, nextOf, replyBuffer, nextBuffer}
 use Rattle.protocol.specs.Demand3.{outcome, leftBy, after, authorising}
 use Rattle.protocol.proofs.Demand3.{demand3}
 use Rattle.protocol.proofs.Statuses.{Numbered, numbered-call}
