@@ -25,6 +25,8 @@ use der::Fit;
 use octets::Status;
 use syntax::AttributeForm;
 use syntax::Form;
+use syntax::ID_CONTENT_TYPE;
+use syntax::ID_MESSAGE_DIGEST;
 use syntax::Recognised;
 use syntax::TampType;
 
@@ -165,10 +167,10 @@ pub fn attr_type(s: &[u8], e: Element) -> &[u8]
 fn form_of(o: &[u8]) -> AttributeForm
     ensures { λ r. ⌜ ((type : List ℕ) → attributeSyntax r type ≡ tagged 0x30 (Attribute (valueSyntax type (now (o .entry))))) ⌝ }
 {
-    if octets::equal(o, &syntax::ID_CONTENT_TYPE) {
+    if octets::equal(o, &ID_CONTENT_TYPE) {
         return AttributeForm::ContentType;
     }
-    if octets::equal(o, &syntax::ID_MESSAGE_DIGEST) {
+    if octets::equal(o, &ID_MESSAGE_DIGEST) {
         return AttributeForm::MessageDigest;
     }
     AttributeForm::Other
@@ -253,20 +255,10 @@ fn attributes_fit(about: &[u8], s: &[u8], signer: Element, attributes: Element) 
     if let Fit::Breaks(o) = each_attribute(about, s, attributes) {
         return Fit::Breaks(o);
     }
-    if !has_type(
-        &syntax::ID_CONTENT_TYPE,
-        s,
-        attributes.start,
-        attributes.stop,
-    ) {
+    if !has_type(&ID_CONTENT_TYPE, s, attributes.start, attributes.stop) {
         return Fit::Breaks(attributes.at);
     }
-    if !has_type(
-        &syntax::ID_MESSAGE_DIGEST,
-        s,
-        attributes.start,
-        attributes.stop,
-    ) {
+    if !has_type(&ID_MESSAGE_DIGEST, s, attributes.start, attributes.stop) {
         return Fit::Breaks(attributes.at);
     }
     Fit::Fits
