@@ -182,7 +182,7 @@ fn query(s: &[u8], q: Request, i: usize, image: &[u8], reply: &mut [u8], next: &
         (now (reply .exit))
         (now (next .exit)) ⌝ }
 {
-    let msgref = der::whole(s, q.msgref);
+    let msgref = message::msg_ref(s, q);
     if octets::REPLY_ROOM < reply::response_size(msgref, image) {
         return Answer::refusal(Status::LONG_REPLY);
     }
@@ -206,7 +206,7 @@ fn adjust(s: &[u8], q: Request, i: usize, image: &[u8], reply: &mut [u8], next: 
         (now (reply .exit))
         (now (next .exit)) ⌝ }
 {
-    let msgref = der::whole(s, q.msgref);
+    let msgref = message::msg_ref(s, q);
     if octets::REPLY_ROOM < reply::confirm_size(msgref) {
         return Answer::refusal(Status::LONG_REPLY);
     }
@@ -242,7 +242,7 @@ fn community(
     let done = apply::community_update(s, q, &mut work, len);
     let end = done.len;
     let status = done.status;
-    let msgref = der::whole(s, q.msgref);
+    let msgref = message::msg_ref(s, q);
     if octets::REPLY_ROOM < reply::confirm_size(msgref) {
         return Answer::refusal(Status::LONG_REPLY);
     }
@@ -271,7 +271,7 @@ fn confirm<'a>(
         (now (reply .exit))
         (now (next .exit)) ⌝ }
 {
-    let msgref = der::whole(s, q.msgref);
+    let msgref = message::msg_ref(s, q);
     if octets::REPLY_ROOM < reply::update_size(msgref, codes.len()) {
         return Answer::refusal(Status::LONG_REPLY);
     }

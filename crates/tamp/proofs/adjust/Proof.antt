@@ -5,12 +5,12 @@ use borrow.Author.Needs.{needs}
 use Rattle.tamp.proofs.adjust.Statement.{statement}
 use Rattle.tamp.proofs.adjust.Tie as tie
 
-whole-requires : tie.Need-whole-requires
-whole-requires c κs = search needs
+msg-ref-requires : tie.Need-msg-ref-requires
+msg-ref-requires c κs = search needs
 
 confirm-size-requires : tie.Need-confirm-size-requires
 confirm-size-requires c κs = let a = c .before .before .before .before .before .args in let p = c .before .before .before .before .before .pre in
-    whole-fits (a .s .now) (a .q .msgref) (p .0 .message) (c .whole .ensures)
+    whole-fits (a .s .now) (a .q .msgref) (p .0 .message) (c .msg-ref .ensures)
 
 refusal-requires : tie.Need-refusal-requires
 refusal-requires c κs = search needs
@@ -18,7 +18,7 @@ refusal-requires c κs = search needs
 returns : tie.Need-returns
 returns c = let a = c .before .before .before .before .before .before .before .before .args in
     moved-long (a .s .now) (a .q) (a .i) (a .image .now) _ (a .reply .now) (a .next .now)
-    (adjust-moves (a .s .now) (a .q) (a .i) (a .image .now) (c .before .before .before .whole .ensures) (c .before .before .before .before .before .before .before .before .pre .2))
+    (adjust-moves (a .s .now) (a .q) (a .i) (a .image .now) (c .before .before .before .msg-ref .ensures) (c .before .before .before .before .before .before .before .before .pre .2))
     (c .before .before .confirm-size .ensures .1)
     (c .before .if1 .taken)
     (c .refusal .ensures)
@@ -41,7 +41,7 @@ same-length-2 c = search needs
 returns-2 : tie.Need-returns-2
 returns-2 c = let a = c .before .before .before .before .before .before .before .before .before .before .before .before .before .before .before .before .args in
     moved (a .s .now) (a .q) (a .i) (a .image .now) _ (a .reply .now) (a .next .now)
-    (adjust-moves (a .s .now) (a .q) (a .i) (a .image .now) (c .before .before .before .before .before .before .before .before .before .before .before .whole .ensures) (c .before .before .before .before .before .before .before .before .before .before .before .before .before .before .before .before .pre .2))
+    (adjust-moves (a .s .now) (a .q) (a .i) (a .image .now) (c .before .before .before .before .before .before .before .before .before .before .before .msg-ref .ensures) (c .before .before .before .before .before .before .before .before .before .before .before .before .before .before .before .before .pre .2))
     (c .before .before .before .before .before .before .before .before .before .before .confirm-size .ensures .1)
     (c .before .before .before .before .before .before .before .before .before .if1 .left)
     (c .before .before .before .before .before .before .before .put-adjust-confirm .ensures .0)
@@ -53,7 +53,7 @@ pub adjust-spec : {M : Type 1} → statement M
 adjust-spec =
     tie.close
     (tie.spec
-    whole-requires
+    msg-ref-requires
     confirm-size-requires
     refusal-requires
     returns

@@ -33,12 +33,12 @@ slice-aggregate-community-update c = search needs
 community-update-requires : tie.Need-community-update-requires
 community-update-requires c κs = let p = start (c .before .before) .pre in record { asked = p .1 .asks; update = p .2; scratch = numbered (c .before .before) }
 
-whole-requires : tie.Need-whole-requires
-whole-requires c κs = search needs
+msg-ref-requires : tie.Need-msg-ref-requires
+msg-ref-requires c κs = search needs
 
 confirm-size-requires : tie.Need-confirm-size-requires
 confirm-size-requires c κs = let k = c .before .before .before .before .before .before in let a = start k .args in let p = start k .pre in
-    whole-fits (a .s .now) (a .q .msgref) (p .0 .message) (c .whole .ensures)
+    whole-fits (a .s .now) (a .q .msgref) (p .0 .message) (c .msg-ref .ensures)
 
 refusal-requires : tie.Need-refusal-requires
 refusal-requires c κs = search needs
@@ -49,7 +49,7 @@ returns c = let k = c .before .before .before .before .before .before .before .b
     (k .renumber .ensures)
     (omega arith)
     (d .ensures)
-    (c .before .before .before .whole .ensures)
+    (c .before .before .before .msg-ref .ensures)
     (c .before .before .confirm-size .ensures .0 (d .result .status))
     (c .before .if1 .taken)
     (c .refusal .ensures)
@@ -81,7 +81,7 @@ returns-2 c = let k = c .before .before .before .before .before .before .before 
     (k .renumber .ensures)
     (omega arith)
     (d .ensures)
-    (c .before .before .before .before .before .before .before .before .before .before .before .whole .ensures)
+    (c .before .before .before .before .before .before .before .before .before .before .before .msg-ref .ensures)
     (c .before .before .before .before .before .before .before .before .before .before .confirm-size .ensures .0 (d .result .status))
     (c .before .before .before .before .before .before .before .before .before .if1 .left)
     (c .before .before .before .before .before .before .before .put-community-confirm .ensures .0)
@@ -97,7 +97,7 @@ community-spec =
     renumber-requires
     slice-aggregate-community-update
     community-update-requires
-    whole-requires
+    msg-ref-requires
     confirm-size-requires
     refusal-requires
     returns

@@ -14,11 +14,11 @@ use borrow.Author.Needs.{needs}
 use Rattle.tamp.proofs.confirm.Statement.{statement}
 use Rattle.tamp.proofs.confirm.Tie as tie
 
-whole-requires : tie.Need-whole-requires
-whole-requires c κs = search needs
+msg-ref-requires : tie.Need-msg-ref-requires
+msg-ref-requires c κs = search needs
 
 update-size-requires : tie.Need-update-size-requires
-update-size-requires c κs = let a = c .before .before .before .before .before .before .args in let p = c .before .before .before .before .before .before .pre in (whole-fits (a .s .now) (a .q .msgref) (p .0 .message) (c .whole .ensures), omega (arith, p .1))
+update-size-requires c κs = let a = c .before .before .before .before .before .before .args in let p = c .before .before .before .before .before .before .pre in (whole-fits (a .s .now) (a .q .msgref) (p .0 .message) (c .msg-ref .ensures), omega (arith, p .1))
 
 refusal-requires : tie.Need-refusal-requires
 refusal-requires c κs = search needs
@@ -26,7 +26,7 @@ refusal-requires c κs = search needs
 returns : tie.Need-returns
 returns c = let a = c .before .before .before .before .before .before .before .before .before .args in
     too-long success (updateConfirm (whole (a .s .now) (a .q .msgref)) (map statusOf (a .codes .now))) (a .store .now) (a .reply .now) (a .next .now)
-    (ap (λ (m : List ℕ). updateConfirm m (map statusOf (a .codes .now))) (c .before .before .before .whole .ensures))
+    (ap (λ (m : List ℕ). updateConfirm m (map statusOf (a .codes .now))) (c .before .before .before .msg-ref .ensures))
     (c .before .before .update-size .ensures (map statusOf (a .codes .now)) (length-map (a .codes .now) statusOf))
     (c .before .if1 .taken)
     (c .refusal .ensures)
@@ -47,7 +47,7 @@ same-length-2 c = search needs
 returns-2 : tie.Need-returns-2
 returns-2 c = let a = c .before .before .before .before .before .before .before .before .before .before .before .before .before .before .before .before .args in
     written success (updateConfirm (whole (a .s .now) (a .q .msgref)) (map statusOf (a .codes .now))) (a .store .now) (a .reply .now) (a .next .now)
-    (ap (λ (m : List ℕ). updateConfirm m (map statusOf (a .codes .now))) (c .before .before .before .before .before .before .before .before .before .before .whole .ensures))
+    (ap (λ (m : List ℕ). updateConfirm m (map statusOf (a .codes .now))) (c .before .before .before .before .before .before .before .before .before .before .msg-ref .ensures))
     refl
     (c .before .before .before .before .before .before .before .before .before .update-size .ensures (map statusOf (a .codes .now)) (length-map (a .codes .now) statusOf))
     (c .before .before .before .before .before .before .before .before .if1 .left)
@@ -60,7 +60,7 @@ pub confirm-spec : {M : Type 1} → statement M
 confirm-spec =
     tie.close
     (tie.spec
-    whole-requires
+    msg-ref-requires
     update-size-requires
     refusal-requires
     returns

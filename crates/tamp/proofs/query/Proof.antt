@@ -20,17 +20,17 @@ start c = c .before .before .before .before .before .before .before .before .bef
 numbered : (c : tie.After-renumber) → Scratch (c .renumber .last .1 .1 .1 .1 .0) (c .renumber .result)
 numbered c = let p = start c .pre in written-scratch (c .renumber .ensures (p .1 .store) (p .1 .decodes)) (p .0 .next)
 
-again : (c : tie.After-renumber) → let m = c .before .before .before .before .whole .result .now in
+again : (c : tie.After-renumber) → let m = c .before .before .before .before .msg-ref .result .now in
     responseOf m (take (c .renumber .result) (c .renumber .last .1 .1 .1 .1 .0)) ≡ responseOf m (start c .args .image .now)
 again c = let a = start c .args in let p = start c .pre in
-    response-again (a .s .now) (a .q) (a .i) (a .image .now) (a .next .now) (c .before .before .before .before .whole .result .now) (p .1) (c .renumber .ensures) (p .0 .next)
+    response-again (a .s .now) (a .q) (a .i) (a .image .now) (a .next .now) (c .before .before .before .before .msg-ref .result .now) (p .1) (c .renumber .ensures) (p .0 .next)
 
-whole-requires : tie.Need-whole-requires
-whole-requires c κs = search needs
+msg-ref-requires : tie.Need-msg-ref-requires
+msg-ref-requires c κs = search needs
 
 response-size-requires : tie.Need-response-size-requires
 response-size-requires c κs = let a = c .before .before .before .before .before .args in let p = c .before .before .before .before .before .pre in (
-  whole-fits (a .s .now) (a .q .msgref) (p .0 .message) (c .whole .ensures),
+  whole-fits (a .s .now) (a .q .msgref) (p .0 .message) (c .msg-ref .ensures),
   omega (arith, image-short (a .image .now) (p .1 .store) (λ k. omega (arith, c .before .before .before .shared-slice-known2 .given k)) (p .1 .decodes)),
 )
 
@@ -40,7 +40,7 @@ refusal-requires c κs = search needs
 returns : tie.Need-returns
 returns c = let a = c .before .before .before .before .before .before .before .before .args in let p = c .before .before .before .before .before .before .before .before .pre in
     moved-long (a .s .now) (a .q) (a .i) (a .image .now) _ (a .reply .now) (a .next .now)
-    (query-moves (a .s .now) (a .q) (a .i) (a .image .now) (c .before .before .before .whole .ensures) (p .2))
+    (query-moves (a .s .now) (a .q) (a .i) (a .image .now) (c .before .before .before .msg-ref .ensures) (p .2))
     (c .before .before .response-size .ensures)
     (c .before .if1 .taken)
     (c .refusal .ensures)
@@ -70,7 +70,7 @@ same-length-2 c = search needs
 returns-2 : tie.Need-returns-2
 returns-2 c = let k = c .before .before .before .before .before .before .before .before in let a = start k .args in let p = start k .pre in
     moved (a .s .now) (a .q) (a .i) (a .image .now) _ (a .reply .now) (a .next .now)
-    (query-moves (a .s .now) (a .q) (a .i) (a .image .now) (k .before .before .before .before .whole .ensures) (p .2))
+    (query-moves (a .s .now) (a .q) (a .i) (a .image .now) (k .before .before .before .before .msg-ref .ensures) (p .2))
     (k .before .before .before .response-size .ensures)
     (k .before .before .if1 .left)
     (c .before .before .before .put-status-response .ensures .0 ∙ ap length (again k))
@@ -82,7 +82,7 @@ pub query-spec : {M : Type 1} → statement M
 query-spec =
     tie.close
     (tie.spec
-    whole-requires
+    msg-ref-requires
     response-size-requires
     refusal-requires
     returns
