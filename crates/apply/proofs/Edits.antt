@@ -1,19 +1,17 @@
 -- The edits of a scratch image (crate edit) make the steps of the rule book (protocol, specs/Update and specs/Effect).
 use Prim.Native.Nat.{ℕ, zero, suc, _+_, _-_, _≤_, _<_}
 use native.Mathlib.Omega.{arith}
-use mathlib.Core.Bool.{true}
-use mathlib.Core.List.{List, [], _∷_, _++_, map}
+use mathlib.Core.List.{List, [], _∷_, _++_}
 use mathlib.Core.Option.{some}
 use mathlib.Core.Path.{_≡_, refl, sym, ap, _∙_}
 use lib.ListN.{length, getD, take, drop}
 use lib.Seq.{split-at, length-take-le}
-use Rattle.octets.specs.Octets.{distinct, placed}
-use Rattle.store.specs.Store.{Anchor, Store, anchors, keyOf}
+use Rattle.octets.specs.Octets.{placed}
+use Rattle.store.specs.Store.{Anchor, Store, anchors}
 use Rattle.store.specs.Image.{encodeNumber, encode}
-use Rattle.edit.specs.Places.{placeOf, countAt}
-use Rattle.edit.specs.Edits.{removed}
-use Rattle.edit.proofs.Anchors.{apex-number-law, number-at-law, remove-anchor-law, without-key}
-use Rattle.protocol.specs.Update.{numbered, without}
+use Rattle.edit.specs.Places.{placeOf}
+use Rattle.edit.proofs.Anchors.{apex-number-law, number-at-law}
+use Rattle.protocol.specs.Update.{numbered}
 use Rattle.protocol.specs.Effect.{numberSet, withNumber, withOthers}
 
 pub numberSet-at : (n : ℕ) (x y : List Anchor) (a : Anchor) → numberSet (length x) n (x ++ (a ∷ y)) ≡ x ++ (numbered n a ∷ y)
@@ -36,11 +34,3 @@ module _ (σ : Store) (d : List ℕ) (len : ℕ) (holds : take len d ≡ encode 
   set-number-step (suc i) n h =
       number-at-law σ d len holds room i (omega arith) n
       ∙ ap (λ (l : List Anchor). encode (withOthers l σ)) (sym (numberSet-split i n (σ .others) (σ .apex) (omega arith)))
-
-  -- "later anchors move up"
-  pub remove-step : (x y : List Anchor) (a : Anchor) (key : List ℕ) → σ .others ≡ x ++ (a ∷ y) → keyOf a ≡ key → distinct (map keyOf (σ .others)) ≡ true
-      → take (len - (11 + length (a .info))) (removed d len (placeOf σ (suc (length x))) (11 + length (a .info)) (countAt σ))
-      ≡ encode (withOthers (without key (σ .others)) σ)
-  remove-step x y a key e k g =
-      remove-anchor-law σ d len holds room x y a e
-      ∙ ap (λ (l : List Anchor). encode (withOthers l σ)) (sym (ap (without key) e ∙ without-key key x y a k (rw e at g)))

@@ -296,10 +296,6 @@ module _ (present : Bool) {removals additions : List (List ℕ)} {d : List ℕ} 
 
 -- the message
 
-oids-are : (s : List ℕ) {e : Element} (f : Element) → e ≡ f → oidsIn s f ≡ oidsFrom s (e .stop) (e .start)
-unfolding oidsIn
-oids-are s f q = ap (λ (g : Element). oidsIn s g) (sym q)
-
 module _ (s : List ℕ) (q : Request) (d : List ℕ) (len : ℕ) {updates removals additions : Element} (u : updates ≡ updatesIn s (q .body) (q .msgref))
     (v : removals ≡ field 0xA1 s updates) (z : additions ≡ field 0xA2 s updates) where
   abbrev gone : List (List ℕ)

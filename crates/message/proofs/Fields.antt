@@ -7,12 +7,12 @@ use lib.ListN.{length}
 use lib.Dec.{eqb}
 use borrow.Author.Tests.{eq-eqb, ne-eqb}
 use Rattle.der.specs.declared.Element.{Element}
-use Rattle.der.specs.Element.{elementAt, elements, inside, field}
+use Rattle.der.specs.Element.{elementAt, elements, field}
 use Rattle.der.proofs.Bools.{on-true, on-false}
 use Rattle.der.proofs.Elements.{elements-end, elements-broken, elements-turn}
 use Rattle.message.specs.declared.Entry.{Entry}
 use Rattle.message.specs.declared.Entry.the-variants as entry
-use Rattle.message.specs.Fields.{updatesIn, entryOf, entriesIn}
+use Rattle.message.specs.Fields.{entryOf}
 
 module _ (s : List ℕ) (e : Element) where
   addedOf : Element → Entry
@@ -70,9 +70,3 @@ module _ (s : List ℕ) (at stop : ℕ) where
 length-map : {A B : Type 0} (f : A → B) (l : List A) → length (map f l) ≡ length l
 length-map f [] = refl
 length-map f (x ∷ l) = ap suc (length-map f l)
-
-pub entries-count : (s : List ℕ) (body msgref : Element) {updates : Element} {n : ℕ} → updates ≡ updatesIn s body msgref → n ≡ length (inside s updates)
-    → n ≡ length (entriesIn s body msgref)
-unfolding entriesIn
-entries-count s body msgref p q =
-    q ∙ ap (λ (e : Element). length (inside s e)) p ∙ sym (length-map (entryOf s) (inside s (updatesIn s body msgref)))

@@ -15,22 +15,10 @@ module _ (d : List ℕ) (at : ℕ) (s : List ℕ) where
   unfolding placed
   length-placed h = simp (length-append, length-take, length-drop) (omega arith)
 
-  -- what stands before s, and from s on
-  pub take-placed : at ≤ length d → take at (placed d at s) ≡ take at d
-  unfolding placed
-  take-placed h = take-at (take at d) (s ++ drop (at + length s) d) at (length-take-le at d h)
-
+  -- from s on
   pub drop-placed : at ≤ length d → drop at (placed d at s) ≡ s ++ drop (at + length s) d
   unfolding placed
   drop-placed h = drop-at (take at d) (s ++ drop (at + length s) d) at (length-take-le at d h)
-
-  -- less of what stands before s
-  pub take-before-placed : (n : ℕ) → n ≤ at → at ≤ length d → take n (placed d at s) ≡ take n d
-  take-before-placed n k h = sym (take-take n at (placed d at s) k) ∙ ap (take n) (take-placed h) ∙ take-take n at d k
-
-  -- s itself
-  pub part-placed : at ≤ length d → take (length s) (drop at (placed d at s)) ≡ s
-  part-placed h = ap (take (length s)) (drop-placed h) ∙ take-at s _ (length s) refl
 
   -- what stands behind s
   pub drop-behind-placed : (n : ℕ) → at + length s ≤ n → at ≤ length d → drop n (placed d at s) ≡ drop n d
@@ -81,12 +69,6 @@ pub placed-cons : (d : List ℕ) (at x : ℕ) (t : List ℕ) → at + 1 + length
 placed-cons d at x t h =
     ap (λ (r : List ℕ). placed r (at + 1) t) (sym (placed-one d at x (omega arith)))
     ∙ placed-append d at (x ∷ []) t (at + 1) refl h
-
--- a write over a write of the same length
-pub placed-again : (d : List ℕ) (at : ℕ) (s t : List ℕ) → length s ≡ length t → at + length t ≤ length d → placed (placed d at s) at t ≡ placed d at t
-unfolding placed
-placed-again d at s t e h =
-    rw (take-placed d at s (omega arith), drop-behind-placed d at s (at + length t) (omega arith) (omega arith))
 
 -- A copy from the first octet on: i of the octets m stand there.
 pub up-turn : (d : List ℕ) (at : ℕ) (m : List ℕ) (i : ℕ) → at + length m ≤ length d → i < length m

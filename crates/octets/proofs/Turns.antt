@@ -3,7 +3,7 @@ use Prim.Native.Nat.{ℕ, _+_, _≤_}
 use native.Mathlib.Nat.{add-zero}
 use native.Mathlib.Omega.{arith}
 use mathlib.Core.List.{List, [], _++_}
-use mathlib.Core.Path.{_≡_, refl, sym, ap, _∙_}
+use mathlib.Core.Path.{_≡_, refl, sym, _∙_}
 use lib.ListN.{length, length-append}
 use Rattle.octets.specs.Octets.{placed}
 use Rattle.octets.proofs.Placed.{length-placed, placed-nil, placed-append}
@@ -55,12 +55,6 @@ module _ (d : List ℕ) (at : ℕ) (all : List ℕ) where
 
   pub left-end : (buf : List ℕ) (p : ℕ) → Left d at all buf p [] → (p ≡ at + length all) × (buf ≡ placed d at all)
   left-end buf p l = (sym (add-zero p) ∙ l .place, sym (placed-nil buf p) ∙ l .whole)
-
--- the last part, from the start of the buffer on
-pub left-done : (d all buf : List ℕ) (p : ℕ) (s : List ℕ) → length all ≤ length d → Left d 0 all buf p s
-    → (p + length s ≡ length all) × (placed buf p s ≡ placed d 0 all) × (length (placed buf p s) ≡ length d)
-left-done d all buf p s h l =
-    (omega (arith, l .place), l .whole, ap length (l .whole) ∙ length-placed d 0 all (omega arith))
 
 -- nothing at all
 pub nothing-written : (d : List ℕ) (at : ℕ) {s : List ℕ} → s ≡ [] → (at ≡ at + length s) × (d ≡ placed d at s)

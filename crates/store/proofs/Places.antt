@@ -1,13 +1,13 @@
 -- What the readers give at a place of the image, where the octets asked for are there and where they are not; and the parts of a record.
-use Prim.Native.Nat.{ℕ, suc, _+_, _≤_, _<_}
+use Prim.Native.Nat.{ℕ, _+_, _≤_, _<_}
 use native.Mathlib.Nat.{zero-add}
 use native.Mathlib.Omega.{arith}
 use mathlib.Core.Bool.{true, _&&_, and-eq-true-iff}
-use mathlib.Core.List.{List, [], _∷_, _++_, append-assoc, append-nil}
-use mathlib.Core.Option.{Option, none, some}
-use mathlib.Core.Path.{_≡_, refl, sym, ap, _∙_}
+use mathlib.Core.List.{List, [], _++_, append-assoc, append-nil}
+use mathlib.Core.Option.{none}
+use mathlib.Core.Path.{_≡_, sym, ap, _∙_}
 use lib.ListN.{length, take, drop, length-drop}
-use lib.Seq.{take-at, drop-at, drop-drop, drop-cons, append-snoc}
+use lib.Seq.{take-at, drop-at, drop-drop, drop-cons}
 use lib.Dec.{leb, ltb, lit<}
 use borrow.Author.Tests.{leb-true, leb-false, ltb-true, ltb-false, le-leb, lt-leb}
 use Rattle.octets.specs.Octets.{octet}
@@ -17,9 +17,9 @@ use Rattle.octets.proofs.Lists.{by-test, both}
 use Rattle.octets.proofs.Number.{length-bigEndian, number-bigEndian}
 use Rattle.anchor.specs.Judge.{storable}
 use Rattle.store.specs.Store.{Anchor}
-use Rattle.store.specs.Image.{Reader, found, provided, passOn, readOctets, readNumber, readSized, readTimes, readAnchor, presentNumber, numberOk}
+use Rattle.store.specs.Image.{Reader, found, provided, passOn, readOctets, readNumber, readSized, readAnchor, presentNumber, numberOk}
 use Rattle.store.specs.Image.{encodeNumber, encodeAnchor, anchorOk}
-use Rattle.store.proofs.Readers.{allowed, refused, nothing, passes, passes-none, passes-on, writeSized}
+use Rattle.store.proofs.Readers.{allowed, refused, nothing, passes, passes-none, writeSized}
 use Rattle.store.proofs.Sizes.{info-size, length-encodeNumber}
 
 -- a number of one octet
@@ -123,31 +123,6 @@ module _ (s : List ℕ) (p : ℕ) where
     anchor-at l m h =
         let e : p + 9 + 2 ≡ p + 11 = omega arith in
         anchor-upto (omega arith) ∙ passes _ _ _ _ (sized-at s (p + 9) 2 maxAnchorOctets n (omega arith) size l m (omega arith)) ∙ rw e
-
--- so many in turn, behind those that were read before: the answer on the whole is the answer on what is left
-
-module _ {A : Type 0} (r : Reader A) where
-  abbrev pub readOnto : List A → ℕ → Reader (List A)
-  readOnto before n s = passOn (readTimes n r s) (λ l. found (before ++ l))
-
-  pub onto-start : (n : ℕ) (s : List ℕ) → readTimes n r s ≡ readOnto [] n s
-  onto-start n s = sym (passes-on (readTimes n r s))
-
-  pub onto-end : (before : List A) (s : List ℕ) → readOnto before 0 s ≡ found before s
-  unfolding readTimes passOn
-  onto-end before s = rw (append-nil before)
-
-  pub onto-turn : (before : List A) (n : ℕ) (s t : List ℕ) (x : A) → r s ≡ found x t → readOnto before (suc n) s ≡ readOnto (before ++ (x ∷ [])) n t
-  unfolding readTimes passOn
-  onto-turn before n s t x e = rw e (go (readTimes n r t))
-    where
-      go : (o : Option (List A × List ℕ)) → passOn (passOn o (λ l. found (x ∷ l))) (λ l. found (before ++ l)) ≡ passOn o (λ l. found (before ++ (x ∷ []) ++ l))
-      go none = refl
-      go (some q) = ap (λ (l : List A). found l (q .1)) (sym (append-snoc before x (q .0)))
-
-  pub onto-none : (before : List A) (n : ℕ) (s : List ℕ) → r s ≡ none → readOnto before (suc n) s ≡ none
-  unfolding readTimes passOn
-  onto-none before n s e = rw e
 
 -- the parts of a record
 

@@ -49,9 +49,6 @@ pub kept-fits : (f : Fit) → kept f ≡ true → f ≡ Fits
 kept-fits Fits e = refl
 kept-fits (Breaks o) e = absurd (false≢true e)
 
-pub fits-kept : {f : Fit} → f ≡ Fits → kept f ≡ true
-fits-kept e = ap kept e
-
 pub breaks≢fits : {o : ℕ} → Breaks o ≡ Fits → ⊥
 breaks≢fits e = false≢true (ap kept e)
 

@@ -108,19 +108,6 @@ module _ (s : List ℕ) (at stop outer : ℕ) {e : Element} (q : e ≡ elementAt
       (λ b. absurd (breaks≢fits (sym (one-broken g next l b) ∙ h))))
       (λ m. absurd (breaks≢fits (sym (one-end g next (ltb-false at stop m)) ∙ h)))
 
-  pub any-fits : {P : Type 0} (next : Syntax) → fit (anyOptional next) s at stop outer ≡ Fits
-      → (stop ≤ at → fit next s at stop outer ≡ Fits → P) → (e .good ≡ true → fit next s (e .stop) stop outer ≡ Fits → P) → P
-  any-fits next h none here =
-      by-test (ltb at stop)
-      (λ m.
-      let l = ltb-true at stop m in
-      by-test (e .good)
-      (λ b. here b (sym (any-turn next l b) ∙ h))
-      (λ b. absurd (breaks≢fits (sym (any-broken next l b) ∙ h))))
-      (λ m.
-      let l = ltb-false at stop m in
-      none l (sym (any-end next l) ∙ h))
-
 module _ (s : List ℕ) (at stop outer : ℕ) where
   pub end-fits : fit end s at stop outer ≡ Fits → stop ≤ at
   unfolding fit
