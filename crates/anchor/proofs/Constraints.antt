@@ -12,15 +12,17 @@ use Rattle.octets.specs.Lists.{allOf, anyOf}
 use Rattle.octets.specs.Octets.{same, distinct}
 use Rattle.octets.proofs.Lists.{by-test}
 use Rattle.der.specs.declared.Element.{Element}
-use Rattle.der.specs.Element.{elementAt, elements, root, whole, contents, field, inside}
+use Rattle.der.specs.Element.{elementAt, elements, root, whole, contents, field, inside, nextAt}
 use Rattle.der.proofs.Elements.{elements-end}
 use Rattle.rights.specs.Rights.{Key, Constraints, Entry, Rights, anyContentType}
 use Rattle.rights.specs.Constraints.{attrConstraint, contentTypeConstraint, constraintsRights}
 use Rattle.anchor.specs.declared.Faults.{Faults}
-use Rattle.anchor.specs.declared.Compared.the-variants.{Types, Octets}
+use Rattle.repeats.specs.declared.Compared.the-variants.{Types, Octets}
 use Rattle.anchor.specs.Judge.{typesIn, repeatedConstraint, anyContentTypeUnlike, overEntries, overAttributes, overValues, overValueOctets}
-use Rattle.anchor.specs.Faults.{keyOf, nextAt, noFaults, together, faultsIn, attributeFaults, isUnlike, entryFaults, rightsFaults}
-use Rattle.anchor.proofs.Runs.{run-turn, anyOf-map}
+use Rattle.repeats.specs.Keys.{keyOf}
+use Rattle.anchor.specs.Faults.{noFaults, together, faultsIn, attributeFaults, isUnlike, entryFaults, rightsFaults}
+use Rattle.der.proofs.Runs.{run-turn}
+use Rattle.anchor.proofs.Runs.{anyOf-map}
 
 pub together-assoc : (a b c : Faults) → together (together a b) c ≡ together a (together b c)
 unfolding together

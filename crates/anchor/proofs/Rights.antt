@@ -9,15 +9,15 @@ use borrow.Author.Tests.{ltb-true, ltb-false}
 use Rattle.octets.proofs.Lists.{by-test}
 use Rattle.octets.proofs.Parts.{part-none}
 use Rattle.der.specs.declared.Element.{Element}
-use Rattle.der.specs.Element.{root, elementAt, elements, contents, field}
+use Rattle.der.specs.Element.{root, elementAt, elements, contents, field, nextAt}
 use Rattle.der.proofs.Bools.{on-true, on-false}
 use Rattle.der.proofs.Header.{header-or-not, element-is, element-absent}
 use Rattle.der.proofs.Elements.{bounded, elements-end, with-tag-end}
 use Rattle.rights.specs.Rights.{nothing}
 use Rattle.rights.specs.Constraints.{contentTypeConstraint, constraintsRights}
 use Rattle.anchor.specs.Info.{extensions, isConstraints, constraintsIn, constraintsExtension, hasConstraints, constraintsValue, rightsOf}
-use Rattle.anchor.specs.Faults.{nextAt}
-use Rattle.anchor.proofs.Runs.{run-on, found-end, found-hit, found-miss}
+use Rattle.der.proofs.Runs.{run-on}
+use Rattle.anchor.proofs.Runs.{found-end, found-hit, found-miss}
 
 absent-empty : (s : List ℕ) (at stop : ℕ) {e : Element} → e ≡ elementAt s at stop → e .good ≡ false → e .start ≡ e .stop
 absent-empty s at stop {e} q g =

@@ -1,4 +1,4 @@
--- A run of elements as a loop reads it, one element a turn; and what the loops look for in it.
+-- What loops look for in a run of elements, one element a turn.
 use Prim.Native.Nat.{ℕ, suc, _-_, _≤_, _<_}
 use native.Mathlib.Omega.{arith}
 use mathlib.Core.Bool.{Bool, true, false, not, _&&_, _||_}
@@ -7,45 +7,14 @@ use mathlib.Core.Path.{_≡_, refl, sym, ap, _∙_}
 use lib.ListN.{length}
 use lib.Dec.{ltb}
 use borrow.Author.Tests.{ltb-true, ltb-false, lt-ltb, le-ltb}
-use Rattle.octets.specs.Lists.{anyOf, distinctBy}
-use Rattle.octets.specs.Octets.{same, distinct}
+use Rattle.octets.specs.Lists.{anyOf}
 use Rattle.octets.proofs.Lists.{by-test}
 use Rattle.der.specs.declared.Element.{Element}
-use Rattle.der.specs.Element.{absent, elementAt, elements}
+use Rattle.der.specs.Element.{absent, elementAt, nextAt, elements}
 use Rattle.der.proofs.Bools.{on-true, on-false}
-use Rattle.der.proofs.Elements.{good-within, elements-end, elements-broken, elements-turn}
+use Rattle.der.proofs.Elements.{elements-end}
+use Rattle.der.proofs.Runs.{run-turn}
 use Rattle.anchor.specs.Info.{isConstraints, constraintsIn}
-use Rattle.anchor.specs.Faults.{nextAt}
-
-pub next-good : (e : Element) (stop : ℕ) → e .good ≡ true → nextAt e stop ≡ e .stop
-unfolding nextAt
-next-good e stop g = rw g
-
-pub next-broken : (e : Element) (stop : ℕ) → e .good ≡ false → nextAt e stop ≡ stop
-unfolding nextAt
-next-broken e stop g = rw g
-
-module _ (s : List ℕ) (at stop : ℕ) {e : Element} (q : e ≡ elementAt s at stop) (l : at < stop) where
-  -- the run is its first element and the run behind it
-  pub run-turn : {n : ℕ} → n ≡ nextAt e stop → elements s at stop ≡ e ∷ elements s n stop
-  run-turn {n} m =
-      by-test (e .good)
-      (λ g. elements-turn s at stop q g ∙ ap (λ (k : ℕ). e ∷ elements s k stop) (sym (m ∙ next-good e stop g)))
-      (λ g.
-      let b : n ≡ stop = m ∙ next-broken e stop g in
-      elements-broken s at stop q l g ∙ ap (λ (r : List Element). e ∷ r) (sym (elements-end s n stop (omega arith))))
-
-  -- which is shorter
-  pub run-on : {n : ℕ} → n ≡ nextAt e stop → at < n
-  run-on {n} m =
-      by-test (e .good)
-      (λ g.
-      let b : n ≡ e .stop = m ∙ next-good e stop g in
-      let w = good-within s at stop q g in
-      omega arith)
-      (λ g.
-      let b : n ≡ stop = m ∙ next-broken e stop g in
-      omega arith)
 
 -- a test that some member passes
 
@@ -67,26 +36,6 @@ module _ (p : Element → Bool) (s : List ℕ) (at stop : ℕ) where
     pub any-miss : {n : ℕ} → n ≡ nextAt e stop → p e ≡ false → anyOf p (elements s at stop) ≡ anyOf p (elements s n stop)
     unfolding anyOf
     any-miss m t = rw (run-turn s at stop q l m, t)
-
--- no two members have the same key
-
-module _ (f : Element → List ℕ) (s : List ℕ) (at stop : ℕ) where
-  pub distinct-end : stop ≤ at → distinct (map f (elements s at stop)) ≡ true
-  unfolding distinct distinctBy
-  distinct-end h = rw (elements-end s at stop h)
-
-  -- r says whether the key k of the first member occurs behind it
-  module _ {e : Element} (q : e ≡ elementAt s at stop) (l : at < stop) {n : ℕ} (m : n ≡ nextAt e stop)
-      {k : List ℕ} (hk : k ≡ f e) {r : Bool} (hr : r ≡ anyOf (λ x. same k (f x)) (elements s n stop)) where
-    distinct-cons : distinct (map f (elements s at stop)) ≡ not r && distinct (map f (elements s n stop))
-    unfolding distinct distinctBy
-    distinct-cons = rw (run-turn s at stop q l m, hr, hk, anyOf-map (same (f e)) f (elements s n stop))
-
-    pub distinct-not : r ≡ true → distinct (map f (elements s at stop)) ≡ false
-    distinct-not t = distinct-cons ∙ ap (λ (b : Bool). not b && distinct (map f (elements s n stop))) t
-
-    pub distinct-turn : r ≡ false → distinct (map f (elements s at stop)) ≡ distinct (map f (elements s n stop))
-    distinct-turn t = distinct-cons ∙ ap (λ (b : Bool). not b && distinct (map f (elements s n stop))) t
 
 -- more members than a number
 

@@ -11,30 +11,16 @@ use Rattle.der.specs.declared.Element.{Element}
 use Rattle.der.specs.Element.{whole, contents, field}
 use Rattle.rights.specs.Rights.{Key, Entry, Rights, anyContentType}
 use Rattle.anchor.specs.declared.Faults.{Faults}
-use Rattle.anchor.specs.declared.Compared.{Compared}
-use Rattle.anchor.specs.declared.Compared.the-variants.{Types, Octets}
 use Rattle.anchor.specs.Info.{critical, isConstraints}
 use Rattle.anchor.specs.Judge.{typesIn}
 
--- what members of a run are compared by: their type (an OID's contents), or all their octets
-unfoldable pub keyOf : Compared → List ℕ → Element → List ℕ
-keyOf Types s e = contents s (field 0x06 s e)
-keyOf Octets s e = whole s e
-
--- the tests that are made of each member of a run: it has the key k; 17, a value over the limit; 34, "a critical one but content constraints"
-
-abbrev pub hasKey : List ℕ → Compared → List ℕ → Element → Bool
-hasKey k by s e = same k (keyOf by s e)
+-- the tests that are made of each member of a run: 17, a value over the limit; 34, "a critical one but content constraints"
 
 abbrev pub isLong : List ℕ → Element → Bool
 isLong s e = ltb maxValueOctets (length (whole s e))
 
 abbrev pub isOtherCritical : List ℕ → Element → Bool
 isOtherCritical t e = critical t e && not (isConstraints t e)
-
--- where a run goes on behind e: nothing is read behind a header that breaks a rule
-unfoldable pub nextAt : Element → ℕ → ℕ
-nextAt e stop = elim (e .good) [ true ↦ e .stop | false ↦ stop ]
 
 abbrev pub noFaults : Faults
 noFaults = record { repeated = false; unlike = false; entries = false; attributes = false; values = false; octets = false }

@@ -2,14 +2,14 @@
 // Everything takes the octets of a TrustAnchorInfo by itself, a part of an image or of a message.
 use der::Element;
 use der::Fit;
+use repeats::Compared;
 ghost use mathlib.Core.Bool.{not, _&&_};
 ghost use mathlib.Core.Path.{_≡_};
 ghost use mathlib.Core.List.{map};
 ghost use lib.ListN.{length};
 ghost use lib.Dec.{ltb};
 ghost use Rattle.octets.specs.Lists.{anyOf};
-ghost use Rattle.octets.specs.Octets.{distinct};
-ghost use Rattle.der.specs.Element.{elements, contents, root as rootOf, inside, field};
+ghost use Rattle.der.specs.Element.{root as rootOf, inside};
 ghost use Rattle.syntax.specs.Asn.{CMSContentConstraints};
 ghost use Rattle.syntax.specs.Forms.{formSyntax};
 ghost use Rattle.rights.specs.Constraints.{attrConstraint, contentTypeConstraint, constraintsRights};
@@ -34,11 +34,8 @@ ghost use Rattle.anchor.specs.Judge.{
   storable,
 };
 ghost use Rattle.anchor.specs.Faults.{
-  keyOf,
-  hasKey,
   isLong,
   isOtherCritical,
-  nextAt,
   noFaults,
   together as togetherOf,
   faultsIn,
@@ -74,12 +71,6 @@ pub enum AnchorRole {
     Apex,
     Management,
     Identity,
-}
-
-// What members of a run are compared by: their type, or all their octets.
-enum Compared {
-    Types,
-    Octets,
 }
 
 // What content constraints break: a repeated type or value, an anyContentType entry unlike Rights, and the limits of Rights.
@@ -128,75 +119,6 @@ pub fn extension_list(t: &[u8]) -> Element
     der::field(t, der::field(t, root(t), 0xA1), 0x30)
 }
 
-// Where a run goes on behind e: nothing is read behind a header that breaks a rule.
-fn next(e: Element, stop: usize) -> usize
-    ensures { λ r. ⌜ r ≡ nextAt e stop ⌝ }
-{
-    if e.good {
-        return e.stop;
-    }
-    stop
-}
-
-// The type in an element: the contents of its OID.
-fn type_of(s: &[u8], e: Element) -> &[u8]
-    ensures { λ r. ⌜ now r ≡ contents (now (s .entry)) (field 0x06 (now (s .entry)) e) ⌝ }
-{
-    der::contents(s, der::field(s, e, 0x06))
-}
-
-// What a member of a run is compared by.
-fn key(s: &[u8], e: Element, by: Compared) -> &[u8]
-    ensures { λ r. ⌜ now r ≡ keyOf by (now (s .entry)) e ⌝ }
-{
-    match by {
-        Compared::Types => type_of(s, e),
-        Compared::Octets => der::whole(s, e),
-    }
-}
-
-// Whether a member of the run from at up to stop has the key k.
-fn occurs(s: &[u8], at: usize, stop: usize, by: Compared, k: &[u8]) -> bool
-    ensures { λ r. ⌜ r ≡ anyOf (hasKey (now (k .entry)) by (now (s .entry))) (elements (now (s .entry)) at stop) ⌝ }
-{
-    let mut i = at;
-    while i < stop {
-        let e = der::element_at(s, i, stop);
-        if octets::equal(k, key(s, e, by)) {
-            return true;
-        }
-        i = next(e, stop);
-    }
-    false
-}
-
-// Whether a member of the run from at up to stop has the key of e, which is looked for only where the run has a member.
-fn recurs(s: &[u8], e: Element, at: usize, stop: usize, by: Compared) -> bool
-    ensures { λ r. ⌜ r ≡ anyOf (hasKey (keyOf by (now (s .entry)) e) by (now (s .entry))) (elements (now (s .entry)) at stop) ⌝ }
-{
-    if stop <= at {
-        return false;
-    }
-    occurs(s, at, stop, by, key(s, e, by))
-}
-
-// No two members of the element `outer` have equal keys.
-fn is_distinct(s: &[u8], outer: Element, by: Compared) -> bool
-    ensures { λ r. ⌜ r ≡ distinct (map (keyOf by (now (s .entry))) (inside (now (s .entry)) outer)) ⌝ }
-{
-    let stop = outer.stop;
-    let mut i = outer.start;
-    while i < stop {
-        let e = der::element_at(s, i, stop);
-        let behind = next(e, stop);
-        if recurs(s, e, behind, stop, by) {
-            return false;
-        }
-        i = behind;
-    }
-    true
-}
-
 // More than n members stand in the element `outer`.
 fn more_than(s: &[u8], outer: Element, n: usize) -> bool
     ensures { λ r. ⌜ r ≡ ltb n (length (inside (now (s .entry)) outer)) ⌝ }
@@ -209,7 +131,7 @@ fn more_than(s: &[u8], outer: Element, n: usize) -> bool
             return true;
         }
         left -= 1;
-        i = next(der::element_at(s, i, stop), stop);
+        i = der::next(der::element_at(s, i, stop), stop);
     }
     false
 }
@@ -225,7 +147,7 @@ fn has_long(s: &[u8], outer: Element) -> bool
         if octets::MAX_VALUE_OCTETS < der::whole(s, e).len() {
             return true;
         }
-        i = next(e, stop);
+        i = der::next(e, stop);
     }
     false
 }
@@ -233,7 +155,7 @@ fn has_long(s: &[u8], outer: Element) -> bool
 fn is_constraints(t: &[u8], e: Element) -> bool
     ensures { λ r. ⌜ r ≡ isConstraints (now (t .entry)) e ⌝ }
 {
-    octets::equal(type_of(t, e), &ID_PE_CMS_CONTENT_CONSTRAINTS)
+    octets::equal(repeats::type_of(t, e), &ID_PE_CMS_CONTENT_CONSTRAINTS)
 }
 
 // The first content constraints extension in a list.
@@ -247,7 +169,7 @@ fn constraints_in(t: &[u8], list: Element) -> Element
         if is_constraints(t, e) {
             return e;
         }
-        i = next(e, stop);
+        i = der::next(e, stop);
     }
     Element {
         good: false,
@@ -319,7 +241,7 @@ fn has_other_critical(t: &[u8], list: Element) -> bool
         if is_other_critical(t, e) {
             return true;
         }
-        i = next(e, stop);
+        i = der::next(e, stop);
     }
     false
 }
@@ -357,7 +279,7 @@ fn attribute_faults(v: &[u8], a: Element) -> Faults
 {
     let values = der::field(v, a, 0x31);
     Faults {
-        repeated: !is_distinct(v, values, Compared::Octets),
+        repeated: !repeats::is_distinct(v, values, Compared::Octets),
         unlike: false,
         entries: false,
         attributes: false,
@@ -376,7 +298,7 @@ fn attributes_faults(v: &[u8], list: Element) -> Faults
     while i < stop {
         let a = der::element_at(v, i, stop);
         found = together(found, attribute_faults(v, a));
-        i = next(a, stop);
+        i = der::next(a, stop);
     }
     found
 }
@@ -385,7 +307,7 @@ fn attributes_faults(v: &[u8], list: Element) -> Faults
 fn is_unlike(v: &[u8], e: Element) -> bool
     ensures { λ r. ⌜ r ≡ isUnlike (contentTypeConstraint (now (v .entry)) e) ⌝ }
 {
-    if !octets::equal(type_of(v, e), &rights::ANY_CONTENT_TYPE) {
+    if !octets::equal(repeats::type_of(v, e), &rights::ANY_CONTENT_TYPE) {
         return false;
     }
     let generation = der::field(v, e, 0x0A);
@@ -401,7 +323,7 @@ fn entry_faults(v: &[u8], e: Element) -> Faults
 {
     let list = der::field(v, e, 0x30);
     let own = Faults {
-        repeated: !is_distinct(v, list, Compared::Types),
+        repeated: !repeats::is_distinct(v, list, Compared::Types),
         unlike: is_unlike(v, e),
         entries: false,
         attributes: more_than(v, list, octets::MAX_ATTRIBUTES),
@@ -421,7 +343,7 @@ fn entries_faults(v: &[u8], list: Element) -> Faults
     while i < stop {
         let e = der::element_at(v, i, stop);
         found = together(found, entry_faults(v, e));
-        i = next(e, stop);
+        i = der::next(e, stop);
     }
     found
 }
@@ -432,7 +354,7 @@ fn rights_faults(v: &[u8]) -> Faults
 {
     let list = root(v);
     let own = Faults {
-        repeated: !is_distinct(v, list, Compared::Types),
+        repeated: !repeats::is_distinct(v, list, Compared::Types),
         unlike: false,
         entries: more_than(v, list, octets::MAX_ENTRIES),
         attributes: false,
@@ -491,7 +413,7 @@ pub fn judge(t: &[u8]) -> Judged
         return Judged::CertPath;
     }
     let list = der::field(t, der::field(t, info, 0xA1), 0x30);
-    if !is_distinct(t, list, Compared::Types) {
+    if !repeats::is_distinct(t, list, Compared::Types) {
         return Judged::RepeatedExtension;
     }
     if has_other_critical(t, list) {

@@ -13,7 +13,7 @@ use Rattle.octets.specs.Lists.{anyOf, keep}
 use Rattle.octets.specs.Octets.{octet, member}
 use Rattle.octets.proofs.Lists.{by-test, neither, keep-in, keep-out}
 use Rattle.der.specs.declared.Element.{Element}
-use Rattle.der.specs.Element.{elementAt, contents}
+use Rattle.der.specs.Element.{elementAt, contents, nextAt}
 use Rattle.store.specs.Image.{encodeName}
 use Rattle.store.specs.Parts.{namesFrom}
 use Rattle.edit.proofs.Sections.{flatMap-append}
@@ -22,7 +22,6 @@ use Rattle.protocol.proofs.Lists.{keep-append}
 use Rattle.apply.specs.declared.Grown.{Grown}
 use Rattle.apply.specs.declared.Grown.the-variants.{To, Full}
 use Rattle.apply.specs.Names.{oidsFrom, Section, Joins, Joinable, Grows, fresh, Addable, AddsName, AddableAll, AddsAll}
-use Rattle.apply.specs.Update.{nextAt}
 use Rattle.apply.proofs.Oids.{oids-end, oids-turn}
 use Rattle.apply.proofs.Sections.{section-count}
 

@@ -9,7 +9,7 @@ use Rattle.octets.specs.Limits.{maxUpdates}
 use Rattle.octets.specs.Octets.{placed}
 use Rattle.octets.proofs.Placed.{placed-nil, placed-cons}
 use Rattle.der.specs.declared.Element.{Element}
-use Rattle.der.specs.Element.{elementAt, elements, inside}
+use Rattle.der.specs.Element.{elementAt, elements, inside, nextAt}
 use Rattle.der.proofs.Elements.{elements-end}
 use Rattle.syntax.proofs.Each.{Every}
 use Rattle.rights.specs.Rights.{Rights}
@@ -26,9 +26,9 @@ use Rattle.protocol.specs.Update.{step, steps}
 use Rattle.apply.specs.declared.Entered.{Entered}
 use Rattle.apply.specs.Scratch.{Holds, Scratch, HoldsBoth, ScratchBoth}
 use Rattle.apply.specs.Entry.{Enters, Adding}
-use Rattle.apply.specs.Update.{nextAt, codesOf, Enterable, EntersAll}
+use Rattle.apply.specs.Update.{codesOf, Enterable, EntersAll}
 use Rattle.apply.proofs.Held.{counted}
-use Rattle.apply.proofs.Runs.{run-turn, run-on}
+use Rattle.der.proofs.Runs.{run-turn, run-on}
 
 -- the entries from a place on
 abbrev entriesFrom : List ℕ → ℕ → ℕ → List Entry

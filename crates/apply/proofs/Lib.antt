@@ -6,7 +6,6 @@ pub mod Held
 pub mod Adds
 pub mod Removes
 pub mod Entries
-pub mod Runs
 pub mod Entering
 pub mod Numbers
 pub mod Signer

@@ -10,7 +10,7 @@ use Rattle.octets.specs.Number.{number}
 use Rattle.octets.proofs.Lists.{by-test}
 use Rattle.der.specs.declared.Element.{Element}
 use Rattle.der.specs.declared.Fit.the-variants.{Fits}
-use Rattle.der.specs.Element.{elementAt, elements, contents, inside, field}
+use Rattle.der.specs.Element.{elementAt, elements, contents, inside, field, nextAt}
 use Rattle.der.proofs.Elements.{elements-end}
 use Rattle.syntax.specs.declared.TampType.the-variants.{Update}
 use Rattle.syntax.specs.Grammar.{end, optional, many, tagged, notEmpty}
@@ -28,8 +28,8 @@ use Rattle.message.proofs.Numbers.{readNumber, pair-whole}
 use Rattle.protocol.specs.Update.{stamped, allStamped}
 use Rattle.apply.specs.Scratch.{HoldsBoth, ScratchBoth}
 use Rattle.apply.specs.Edits.{Renumbers}
-use Rattle.apply.specs.Update.{nextAt, Numerable}
-use Rattle.apply.proofs.Runs.{run-turn, run-on}
+use Rattle.apply.specs.Update.{Numerable}
+use Rattle.der.proofs.Runs.{run-turn, run-on}
 
 -- every number of tampSeqNumbers is read whole
 abbrev Whole : List ℕ → Element → Type 0

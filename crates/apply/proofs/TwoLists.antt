@@ -45,48 +45,6 @@ use Rattle.apply.specs.Community.{Puttable, Puts, CommunityReady, Commun
 use Rattle.apply.proofs.Held as held
 use Rattle.apply.proofs.Sections.{section-size, section-count}
 
--- 24: "an OID occurs twice in its two lists"
-
-shuffle : (p q a b c : Bool) → not (p || q) && (a && b && not c) ≡ (not p && a) && b && not (q || c)
-shuffle true q a b c = refl
-shuffle false true true true c = refl
-shuffle false true true false c = refl
-shuffle false true false b c = refl
-shuffle false false a b c = refl
-
-distinct-both : (a b : List (List ℕ)) → distinct (a ++ b) ≡ distinct a && distinct b && not (anyOf (λ o. member o b) a)
-unfolding distinct distinctBy anyOf member
-distinct-both [] b = last (distinctBy same b)
-  where
-    last : (v : Bool) → v ≡ v && true
-    last true = refl
-    last false = refl
-distinct-both (x ∷ a) b =
-    ap₂ (λ (u v : Bool). not u && v) (member-append x a b) (distinct-both a b)
-    ∙ shuffle (member x a) (member x b) (distinct a) (distinct b) (anyOf (λ o. member o b) a)
-
-module _ (a b : List (List ℕ)) {u : Bool} (p : u ≡ distinct a) where
-  pub repeats-first : u ≡ false → true ≡ not (distinct (a ++ b))
-  repeats-first t =
-      let e : distinct (a ++ b) ≡ false = distinct-both a b ∙ rw (sym p ∙ t) in
-      sym (ap not e)
-
-  module _ (t : u ≡ true) {v : Bool} (q : v ≡ distinct b) where
-    pub repeats-second : v ≡ false → true ≡ not (distinct (a ++ b))
-    repeats-second z =
-        let e : distinct (a ++ b) ≡ false = distinct-both a b ∙ rw (sym p ∙ t, sym q ∙ z) in
-        sym (ap not e)
-
-    pub repeats-both : v ≡ true → {w : Bool} → w ≡ anyOf (λ o. member o b) a → w ≡ not (distinct (a ++ b))
-    repeats-both z {w} m =
-        let s = anyOf (λ o. member o b) a in
-        let e : distinct (a ++ b) ≡ not s = distinct-both a b ∙ rw (sym p ∙ t, sym q ∙ z) in
-        m ∙ sym (ap not e ∙ twice s)
-      where
-        twice : (v : Bool) → not (not v) ≡ v
-        twice true = refl
-        twice false = refl
-
 -- the status and the communities behind it, by what the tests said
 
 abbrev long : List ℕ → Bool

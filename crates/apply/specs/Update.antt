@@ -20,10 +20,6 @@ use Rattle.protocol.specs.Effect.{updateEffect}
 use Rattle.apply.specs.declared.Marks.{Marks}
 use Rattle.apply.specs.Scratch.{Holds, Scratch, HoldsBoth, ScratchBoth}
 
--- where the element behind e stands, or the end of the run
-unfoldable pub nextAt : Element → ℕ → ℕ
-nextAt e stop = elim (e .good) [ true ↦ e .stop | false ↦ stop ]
-
 -- statuses, an octet each
 abbrev pub codesOf : List Status → List ℕ
 codesOf l = map (λ status. status .number) l

@@ -3,6 +3,7 @@ use der::Element;
 use message::Entry;
 use message::Request;
 use octets::Status;
+use repeats::Compared;
 use store::Position;
 use store::Sought;
 ghost use mathlib.Core.Path.{_≡_};
@@ -26,7 +27,7 @@ ghost use Rattle.apply.specs.Edits.{Growable, Appends, Cuttable, Cuts, S
 ghost use Rattle.apply.specs.Entry.{statusOf, Applies, Enters, Conforming, Adding, untagged};
 ghost use Rattle.apply.specs.Names.{oidsFrom, Section, Joinable, Joins, KeepsName, FewNames, Addable, AddsName, AddableAll, AddsAll};
 ghost use Rattle.apply.specs.Community.{Puttable, Puts, CommunityReady, CommunityDone};
-ghost use Rattle.apply.specs.Update.{nextAt, Enterable, EntersAll, Numerable, UpdatedAs};
+ghost use Rattle.apply.specs.Update.{Enterable, EntersAll, Numerable, UpdatedAs};
 
 // What an entry of an Update comes to.
 pub enum Applied {
@@ -253,16 +254,6 @@ fn enter(
     }
 }
 
-// Where the element behind e stands, or the end: one whose header breaks a rule is the last.
-fn next(e: Element, stop: usize) -> usize
-    ensures { λ r. ⌜ r ≡ nextAt e stop ⌝ }
-{
-    if e.good {
-        return e.stop;
-    }
-    stop
-}
-
 // "They apply in order, each to what the former left": the entries in a list, with a status octet for each.
 fn enter_all(
     message: &[u8],
@@ -299,7 +290,7 @@ fn enter_all(
         end = done.len;
         old = done.old;
         n += 1;
-        at = next(e, stop);
+        at = der::next(e, stop);
     }
     Marks { len: end, old: old }
 }
@@ -343,7 +334,7 @@ fn stamp_all(message: &[u8], q: Request, work: &mut [u8], len: usize, old: usize
         let id = der::contents(message, der::field(message, e, 0x04));
         let n = message::number_in(message, der::field(message, e, 0x02));
         stamp(work, len, old, id, n);
-        at = next(e, stop);
+        at = der::next(e, stop);
     }
 }
 
@@ -377,57 +368,6 @@ pub fn update(
     end
 }
 
-// o is one of the OIDs from a place on.
-fn occurs(s: &[u8], at: usize, stop: usize, o: &[u8]) -> bool
-    ensures { λ r. ⌜ r ≡ member (now (o .entry)) (oidsFrom (now (s .entry)) stop at) ⌝ }
-{
-    let mut i = at;
-    while i < stop {
-        let e = der::element_at(s, i, stop);
-        if octets::equal(o, der::contents(s, e)) {
-            return true;
-        }
-        i = next(e, stop);
-    }
-    false
-}
-
-// No OID of the list occurs twice in it.
-fn is_distinct(s: &[u8], list: Element) -> bool
-    ensures { λ r. ⌜ r ≡ distinct (oidsFrom (now (s .entry)) (list .stop) (list .start)) ⌝ }
-{
-    let stop = list.stop;
-    let mut i = list.start;
-    while i < stop {
-        let e = der::element_at(s, i, stop);
-        let n = next(e, stop);
-        if occurs(s, n, stop, der::contents(s, e)) {
-            return false;
-        }
-        i = n;
-    }
-    true
-}
-
-// Some OID of the list is in the other one.
-fn shares(s: &[u8], list: Element, other: Element) -> bool
-    ensures { λ r.
-        ⌜ r ≡ anyOf
-        (λ o. member o (oidsFrom (now (s .entry)) (other .stop) (other .start)))
-        (oidsFrom (now (s .entry)) (list .stop) (list .start)) ⌝ }
-{
-    let stop = list.stop;
-    let mut i = list.start;
-    while i < stop {
-        let e = der::element_at(s, i, stop);
-        if occurs(s, other.start, other.stop, der::contents(s, e)) {
-            return true;
-        }
-        i = next(e, stop);
-    }
-    false
-}
-
 // Some OID of the list is over 32 octets.
 fn has_long(s: &[u8], list: Element) -> bool
     ensures { λ r. ⌜ r ≡ anyOf (λ c. ltb maxName (length c)) (oidsFrom (now (s .entry)) (list .stop) (list .start)) ⌝ }
@@ -439,7 +379,7 @@ fn has_long(s: &[u8], list: Element) -> bool
         if octets::MAX_NAME < der::contents(s, e).len() {
             return true;
         }
-        i = next(e, stop);
+        i = der::next(e, stop);
     }
     false
 }
@@ -464,7 +404,13 @@ fn keep_name(message: &[u8], removals: Element, names: &mut [u8], len: usize, na
         r
         (now (names .exit)) ⌝ }
 {
-    if occurs(message, removals.start, removals.stop, name) {
+    if repeats::occurs(
+        message,
+        removals.start,
+        removals.stop,
+        Compared::Contents,
+        name,
+    ) {
         return len;
     }
     join(names, len, name)
@@ -558,26 +504,20 @@ fn add_names(message: &[u8], additions: Element, names: &mut [u8], len: usize) -
             return Grown::Full;
         };
         end = n;
-        i = next(e, stop);
+        i = der::next(e, stop);
     }
     Grown::To(end)
 }
 
 // 24: an OID occurs twice in the two lists.
-fn repeats(s: &[u8], removals: Element, additions: Element) -> bool
+fn has_repeat(s: &[u8], removals: Element, additions: Element) -> bool
     ensures { λ r.
         ⌜ r ≡ not
         (distinct
         (oidsFrom (now (s .entry)) (removals .stop) (removals .start)
         ++ oidsFrom (now (s .entry)) (additions .stop) (additions .start))) ⌝ }
 {
-    if !is_distinct(s, removals) {
-        return true;
-    }
-    if !is_distinct(s, additions) {
-        return true;
-    }
-    shares(s, removals, additions)
+    !repeats::are_distinct(s, removals, additions, Compared::Contents)
 }
 
 // Removals, then additions, unless over 16 would remain.
@@ -627,7 +567,7 @@ pub fn community_update(message: &[u8], q: Request, work: &mut [u8], len: usize)
     let updates = message::updates_in(message, q.body, q.msgref);
     let removals = der::field(message, updates, 0xA1);
     let additions = der::field(message, updates, 0xA2);
-    if repeats(message, removals, additions) {
+    if has_repeat(message, removals, additions) {
         return Communities {
             status: Status::COMMUNITY_UPDATE_FAILED,
             len: len,

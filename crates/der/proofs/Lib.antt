@@ -1,6 +1,7 @@
 pub mod Bools
 pub mod Header
 pub mod Elements
+pub mod Runs
 pub mod Fits
 pub mod Leaves
 pub mod Checks

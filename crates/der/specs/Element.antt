@@ -59,6 +59,10 @@ elementAt s at stop =
       | false ↦ absent at
     ]
 
+-- where a run goes on behind e: nothing is read behind a header that breaks a rule
+unfoldable pub nextAt : Element → ℕ → ℕ
+nextAt e stop = elim (e .good) [ true ↦ e .stop | false ↦ stop ]
+
 -- the elements of a run, one behind the other from `at` on up to `stop`; one whose header breaks a rule is the last. (n bounds their number.)
 unfoldable pub elementsFrom : ℕ → List ℕ → ℕ → ℕ → List Element
 elementsFrom zero s at stop = []

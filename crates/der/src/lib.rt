@@ -12,6 +12,7 @@ ghost use Rattle.der.specs.Element.{
   contentsAt,
   lengthIn,
   elementAt,
+  nextAt,
   elements,
   whole as wholeOf,
   contents as contentsOf,
@@ -48,7 +49,8 @@ pub enum Fit {
     Breaks(usize),
 }
 
-fn no_element(at: usize) -> Element
+// No element: what stands where a header breaks a rule.
+pub fn no_element(at: usize) -> Element
     ensures { λ r. ⌜ r ≡ absent at ⌝ }
 {
     Element {
@@ -148,6 +150,16 @@ pub fn element_at(s: &[u8], at: usize, stop: usize) -> Element
         start: start,
         stop: start + n,
     }
+}
+
+// Where a run goes on behind e: nothing is read behind a header that breaks a rule.
+pub fn next(e: Element, stop: usize) -> usize
+    ensures { λ r. ⌜ r ≡ nextAt e stop ⌝ }
+{
+    if e.good {
+        return e.stop;
+    }
+    stop
 }
 
 // INTEGER and ENUMERATED: not empty and shortest.

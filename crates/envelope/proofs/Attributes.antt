@@ -1,18 +1,25 @@
 -- 01, Answers, status 7: the definitions of specs/Attributes, one way through their tests at a time.
-use Prim.Native.Nat.{ℕ}
+use Prim.Native.Nat.{ℕ, _≤_}
+use native.Mathlib.Omega.{arith}
 use mathlib.Core.Bool.{Bool, true, false, not, _&&_}
-use mathlib.Core.List.{List, [], _∷_}
+use mathlib.Core.List.{List, [], _∷_, map, map-append}
+use lib.ListN.{length}
 use mathlib.Core.Path.{_≡_, refl, sym, ap, ap₂, _∙_}
 use Rattle.octets.specs.Lists.{anyOf}
-use Rattle.octets.specs.Octets.{same, member, ordered}
+use Rattle.octets.specs.Octets.{same, member, distinct, ordered}
 use Rattle.octets.specs.Number.{digits}
 use Rattle.octets.proofs.Lists.{both}
 use Rattle.der.specs.declared.Element.{Element}
 use Rattle.der.specs.declared.Fit.{Fit}
 use Rattle.der.specs.declared.Fit.the-variants.{Breaks}
-use Rattle.der.specs.Element.{elements, whole, inside}
+use Rattle.der.specs.Element.{elementAt, elements, whole, inside}
 use Rattle.der.specs.Fit.{andThen, held, each}
 use Rattle.der.specs.Oid.{oid, arc, arcs}
+use Rattle.der.proofs.Elements.{good-within}
+use Rattle.der.proofs.Runs.{Reached, reached-head}
+use Rattle.repeats.specs.Keys.{keyOf}
+use Rattle.repeats.specs.declared.Compared.the-variants.{Types}
+use Rattle.repeats.proofs.Keys.{keys-end, distinct-none, distinct-before}
 use Rattle.der.proofs.Bools.{and-false, on-true, on-false}
 use Rattle.syntax.specs.Grammar.{Syntax, free, obeys, tagged, equals, fit}
 use Rattle.syntax.specs.Asn.{Attribute}
@@ -21,7 +28,7 @@ use Rattle.syntax.specs.declared.AttributeForm.{AttributeForm}
 use Rattle.syntax.specs.declared.AttributeForm.the-variants as attribute
 use Rattle.syntax.specs.Forms.{attributeSyntax}
 use Rattle.rights.specs.Attributes.{attrType}
-use Rattle.envelope.specs.Attributes.{valueSyntax, attributeFit, repeated, hasType, attributesFit}
+use Rattle.envelope.specs.Attributes.{valueSyntax, attributeFit, repeated, NewUntil, hasType, attributesFit}
 use Rattle.envelope.proofs.Runs.{any-map}
 
 -- the two OIDs of RFC 5652 as octets
@@ -80,18 +87,40 @@ pub repeated-any : (s : List ℕ) (attributes e : Element)
 unfolding repeated member
 repeated-any s attributes e = any-map (same (attrType s e)) (attrType s) (elements s (attributes .start) (e .at))
 
--- the place of an attribute: a former one and its own octets w and v, its type o, and whether one before it has that type
+-- .. as a search for the type o finds it
+pub repeated-if : (s : List ℕ) (attributes e : Element) {o : List ℕ} {b : Bool} → o ≡ attrType s e
+    → b ≡ anyOf (λ m. same o (attrType s m)) (elements s (attributes .start) (e .at))
+    → b ≡ repeated s attributes e
+repeated-if s attributes e t k =
+    k ∙ ap (λ (o : List ℕ). anyOf (λ m. same o (attrType s m)) (elements s (attributes .start) (e .at))) t ∙ sym (repeated-any s attributes e)
+
+-- .. and where no two types are equal up to a place behind it, it is not there
+pub repeated-not : {s : List ℕ} {attributes : Element} {until at : ℕ} → NewUntil s attributes until → Reached s (attributes .start) at
+    → {e : Element} → e ≡ elementAt s at (attributes .stop) → e .good ≡ true → e .stop ≤ until → repeated s attributes e ≡ false
+unfolding repeated keyOf
+repeated-not {s} {attributes} {until} {at} n r {e} q g h =
+    let w = good-within s at (attributes .stop) q g in
+    let l : until ≤ length s = omega (arith, h, w, r .onward, n .within (omega (arith, h, w, r .onward))) in
+    let d = ap (λ (x : List Element). distinct (map (attrType s) x)) (sym (reached-head r (attributes .stop) q g until h l)) ∙ n .apart in
+    ap (λ (i : ℕ). member (attrType s e) (map (attrType s) (elements s (attributes .start) i))) (w .here)
+    ∙ distinct-before (map (attrType s) (elements s (attributes .start) at)) (attrType s e) _
+    (ap distinct (sym (map-append (attrType s) (elements s (attributes .start) at) (e ∷ elements s (e .stop) until))) ∙ d)
+
+pub new-none : (s : List ℕ) (attributes : Element) → NewUntil s attributes (attributes .start)
+new-none s attributes =
+    record {
+      apart = ap distinct (keys-end Types s (attributes .start) (attributes .start) (omega arith)) ∙ distinct-none;
+      within = λ h. omega (arith, h);
+    }
+
+-- the place of an attribute: a former one and its own octets w and v, and whether its type is new
 module _ (s : List ℕ) (attributes former e : Element) {w v : List ℕ} (p : w ≡ whole s former) (q : v ≡ whole s e) where
   pub placed-not : ordered w v ≡ false → false ≡ ordered (whole s former) (whole s e) && not (repeated s attributes e)
   placed-not h =
       sym (ap (λ (b : Bool). b && not (repeated s attributes e)) (ap₂ ordered (sym p) (sym q) ∙ h))
 
-  pub placed-if : ordered w v ≡ true → {o : List ℕ} {b : Bool} → o ≡ attrType s e
-      → b ≡ anyOf (λ m. same o (attrType s m)) (elements s (attributes .start) (e .at))
-      → not b ≡ ordered (whole s former) (whole s e) && not (repeated s attributes e)
-  placed-if h t k =
-      let r = k ∙ ap (λ (o : List ℕ). anyOf (λ m. same o (attrType s m)) (elements s (attributes .start) (e .at))) t ∙ sym (repeated-any s attributes e) in
-      sym (ap (λ (b : Bool). b && not (repeated s attributes e)) (ap₂ ordered (sym p) (sym q) ∙ h) ∙ ap not (sym r))
+  pub placed-if : ordered w v ≡ true → {n : Bool} → n ≡ not (repeated s attributes e) → n ≡ ordered (whole s former) (whole s e) && not (repeated s attributes e)
+  placed-if h k = k ∙ sym (ap (λ (b : Bool). b && not (repeated s attributes e)) (ap₂ ordered (sym p) (sym q) ∙ h))
 
 -- the judge of each attribute
 abbrev pub attributeJudge : List ℕ → List ℕ → Element → Element → Element → Fit

@@ -1,14 +1,17 @@
 -- 01, Answers, status 7: the signed attributes.
-use Prim.Native.Nat.{ℕ}
+use Prim.Native.Nat.{ℕ, _≤_, _<_}
 use mathlib.Core.Bool.{Bool, true, false, not, _&&_}
 use mathlib.Core.List.{List, map}
+use mathlib.Core.Path.{_≡_}
 use Rattle.octets.specs.Lists.{anyOf}
-use Rattle.octets.specs.Octets.{same, member, ordered}
+use Rattle.octets.specs.Octets.{same, member, distinct, ordered}
 use Rattle.der.specs.declared.Element.{Element}
 use Rattle.der.specs.declared.Fit.{Fit}
 use Rattle.der.specs.declared.Fit.the-variants.{Breaks}
 use Rattle.der.specs.Element.{elements, whole, inside}
 use Rattle.der.specs.Fit.{andThen, held, each}
+use Rattle.repeats.specs.declared.Compared.the-variants.{Types}
+use Rattle.repeats.specs.Keys.{keysFrom}
 use Rattle.syntax.specs.Grammar.{Syntax, free, obeys, tagged, equals, fit}
 use Rattle.syntax.specs.Asn.{Attribute}
 use Rattle.syntax.specs.Types.{id-contentType, id-messageDigest}
@@ -30,6 +33,11 @@ attributeFit eContentType s e = fit (tagged 0x30 (Attribute (valueSyntax eConten
 -- "a type repeated": it is the type of an attribute before e in signedAttrs
 unfoldable pub repeated : List ℕ → Element → Element → Bool
 repeated s attributes e = member (attrType s e) (map (attrType s) (elements s (attributes .start) (e .at)))
+
+-- up to a place no two types are equal
+pub record NewUntil (s : List ℕ) (attributes : Element) (until : ℕ) : Type 0 where
+  pub apart : distinct (keysFrom Types s (attributes .start) until) ≡ true
+  pub within : attributes .start < until → until ≤ attributes .stop
 
 -- "content-type or message-digest missing"
 unfoldable pub hasType : List ℕ → Element → List ℕ → Bool

@@ -1,8 +1,8 @@
 // The signed wrapper of a message (RFC 5652): rows 1 to 8 of 01's table of answers.
 ghost use mathlib.Core.Path.{_≡_};
-ghost use mathlib.Core.Bool.{not, _&&_, _||_};
+ghost use mathlib.Core.Bool.{false, not, _&&_, _||_};
 ghost use mathlib.Core.List.{List};
-ghost use Prim.Native.Nat.{ℕ};
+ghost use Prim.Native.Nat.{ℕ, _≤_};
 ghost use Rattle.octets.specs.Lists.{anyOf};
 ghost use Rattle.octets.specs.Octets.{same, ordered};
 ghost use Rattle.der.specs.Element.{absent, whole as wholeOf, contents as contentsOf, inside, field, elements};
@@ -16,6 +16,7 @@ ghost use Rattle.envelope.specs.Attributes.{
   valueSyntax,
   attributeFit,
   repeated,
+  NewUntil,
   attributesFit,
 };
 ghost use Rattle.envelope.specs.Given.{givenFirst, orAt, orIf, orRef, kindOf};
@@ -23,6 +24,7 @@ ghost use Rattle.envelope.specs.Rows.{isTamp, row-1, row-29, row-2, enve
 use der::Element;
 use der::Fit;
 use octets::Status;
+use repeats::Compared;
 use syntax::AttributeForm;
 use syntax::Form;
 use syntax::ID_CONTENT_TYPE;
@@ -56,6 +58,9 @@ pub enum Envelope {
     Opened(Signed),
     Refused(Refusal),
 }
+
+// Attributes in no more octets are few.
+const FEW_OCTETS: usize = 512;
 
 fn no_element() -> Element
     ensures { λ r. ⌜ r ≡ absent 0 ⌝ }
@@ -202,8 +207,20 @@ fn has_type(o: &[u8], s: &[u8], at: usize, stop: usize) -> bool
     false
 }
 
+// "a type repeated": the type of the attribute e is new. Up to the place `until` no two types are equal.
+fn is_new(s: &[u8], attributes: Element, e: Element, until: usize) -> bool
+    requires { ⌜ (e .stop ≤ until → repeated (now s) attributes e ≡ false) ⌝ }
+    ensures { λ r. ⌜ r ≡ not (repeated (now (s .entry)) attributes e) ⌝ }
+{
+    if e.stop <= until {
+        return true;
+    }
+    !has_type(attr_type(s, e), s, attributes.start, e.at)
+}
+
 // "not sorted, a type repeated": the attribute e stands in order behind the one before it, and its type is new.
-fn is_in_place(s: &[u8], attributes: Element, former: Element, e: Element) -> bool
+fn is_in_place(s: &[u8], attributes: Element, former: Element, e: Element, until: usize) -> bool
+    requires { ⌜ (e .stop ≤ until → repeated (now s) attributes e ≡ false) ⌝ }
     ensures { λ r.
         ⌜ r ≡ ordered (wholeOf (now (s .entry)) former) (wholeOf (now (s .entry)) e)
         && not (repeated (now (s .entry)) attributes e) ⌝ }
@@ -211,11 +228,12 @@ fn is_in_place(s: &[u8], attributes: Element, former: Element, e: Element) -> bo
     if !octets::in_order(der::whole(s, former), der::whole(s, e)) {
         return false;
     }
-    !has_type(attr_type(s, e), s, attributes.start, e.at)
+    is_new(s, attributes, e, until)
 }
 
-// Each of the signed attributes in turn.
-fn each_attribute(about: &[u8], s: &[u8], attributes: Element) -> Fit
+// Each of the signed attributes in turn. Up to the place `until` no two types are equal.
+fn each_attribute(about: &[u8], s: &[u8], attributes: Element, until: usize) -> Fit
+    requires { ⌜ NewUntil (now s) attributes until ⌝ }
     ensures { λ r.
         ⌜ r ≡ each
         (λ former e. andThen
@@ -235,7 +253,7 @@ fn each_attribute(about: &[u8], s: &[u8], attributes: Element) -> Fit
         if let Fit::Breaks(o) = attribute_fit(about, s, e) {
             return Fit::Breaks(o);
         }
-        if !is_in_place(s, attributes, former, e) {
+        if !is_in_place(s, attributes, former, e, until) {
             return Fit::Breaks(e.at);
         }
         at = e.stop;
@@ -245,6 +263,19 @@ fn each_attribute(about: &[u8], s: &[u8], attributes: Element) -> Fit
     Fit::Fits
 }
 
+// A place up to which no two types of the attributes are equal. It is sought where there are many: few are compared each with those before it.
+fn new_until(s: &[u8], attributes: Element) -> usize
+    ensures { λ r. ⌜ NewUntil (now (s .entry)) attributes r ⌝ }
+{
+    if attributes.stop <= attributes.start {
+        return attributes.start;
+    }
+    if attributes.stop - attributes.start <= FEW_OCTETS {
+        return attributes.start;
+    }
+    repeats::distinct_until(s, attributes, Compared::Types)
+}
+
 // 7: the signed attributes, where about is eContentType.
 fn attributes_fit(about: &[u8], s: &[u8], signer: Element, attributes: Element) -> Fit
     ensures { λ r. ⌜ r ≡ attributesFit (now (about .entry)) (now (s .entry)) signer attributes ⌝ }
@@ -252,7 +283,8 @@ fn attributes_fit(about: &[u8], s: &[u8], signer: Element, attributes: Element) 
     if !attributes.good {
         return Fit::Breaks(signer.at);
     }
-    if let Fit::Breaks(o) = each_attribute(about, s, attributes) {
+    let until = new_until(s, attributes);
+    if let Fit::Breaks(o) = each_attribute(about, s, attributes, until) {
         return Fit::Breaks(o);
     }
     if !has_type(&ID_CONTENT_TYPE, s, attributes.start, attributes.stop) {

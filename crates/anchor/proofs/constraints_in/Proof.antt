@@ -5,7 +5,8 @@ use native.Mathlib.Omega.{arith}
 use mathlib.Core.Path.{_≡_, refl, sym, _∙_}
 use Rattle.der.specs.Element.{elements}
 use Rattle.anchor.specs.Info.{constraintsIn}
-use Rattle.anchor.proofs.Runs.{run-on, found-end, found-hit, found-miss}
+use Rattle.der.proofs.Runs.{run-on}
+use Rattle.anchor.proofs.Runs.{found-end, found-hit, found-miss}
 use Rattle.anchor.proofs.constraints_in.Statement.{statement}
 use Rattle.anchor.proofs.constraints_in.Tie as tie
 

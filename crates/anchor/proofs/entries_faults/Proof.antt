@@ -7,7 +7,7 @@ use mathlib.Core.Path.{_≡_, sym, _∙_}
 use Rattle.der.specs.Element.{elements}
 use Rattle.rights.specs.Constraints.{contentTypeConstraint}
 use Rattle.anchor.specs.Faults.{together, faultsIn, entryFaults}
-use Rattle.anchor.proofs.Runs.{run-on}
+use Rattle.der.proofs.Runs.{run-on}
 use Rattle.anchor.proofs.Constraints.{faults-end, faults-turn, none-together}
 use Rattle.anchor.proofs.entries_faults.Statement.{statement}
 use Rattle.anchor.proofs.entries_faults.Tie as tie

@@ -11,7 +11,8 @@ use Rattle.octets.specs.Lists.{anyOf}
 use Rattle.octets.specs.Limits.{maxValueOctets}
 use Rattle.der.specs.Element.{elements}
 use Rattle.anchor.specs.Faults.{isLong}
-use Rattle.anchor.proofs.Runs.{run-on, any-end, any-hit, any-miss}
+use Rattle.der.proofs.Runs.{run-on}
+use Rattle.anchor.proofs.Runs.{any-end, any-hit, any-miss}
 use Rattle.anchor.proofs.has_long.Statement.{statement}
 use Rattle.anchor.proofs.has_long.Tie as tie
 

@@ -6,7 +6,8 @@ use mathlib.Core.Path.{_≡_, refl, sym, _∙_}
 use Rattle.octets.specs.Lists.{anyOf}
 use Rattle.der.specs.Element.{elements}
 use Rattle.anchor.specs.Faults.{isOtherCritical}
-use Rattle.anchor.proofs.Runs.{run-on, any-end, any-hit, any-miss}
+use Rattle.der.proofs.Runs.{run-on}
+use Rattle.anchor.proofs.Runs.{any-end, any-hit, any-miss}
 use Rattle.anchor.proofs.has_other_critical.Statement.{statement}
 use Rattle.anchor.proofs.has_other_critical.Tie as tie
 

@@ -6,7 +6,8 @@ use mathlib.Core.Path.{_≡_, refl, sym, _∙_}
 use lib.ListN.{length}
 use lib.Dec.{ltb}
 use Rattle.der.specs.Element.{elements}
-use Rattle.anchor.proofs.Runs.{run-on, more-end, more-hit, more-turn}
+use Rattle.der.proofs.Runs.{run-on}
+use Rattle.anchor.proofs.Runs.{more-end, more-hit, more-turn}
 use Rattle.anchor.proofs.more_than.Statement.{statement}
 use Rattle.anchor.proofs.more_than.Tie as tie
 

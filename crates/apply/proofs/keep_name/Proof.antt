@@ -1,5 +1,6 @@
 use Rattle.apply.proofs.Sections.{keep-none, keep-one}
 use borrow.Author.Needs.{needs}
+use Rattle.repeats.specs.Keys.{keyOf}
 use Rattle.apply.proofs.keep_name.Statement.{statement}
 use Rattle.apply.proofs.keep_name.Tie as tie
 
@@ -7,6 +8,7 @@ occurs-requires : tie.Need-occurs-requires
 occurs-requires c κs = search needs
 
 returns : tie.Need-returns
+unfolding keyOf
 returns c = keep-none _ _ (c .before .occurs .ensures) (c .if1 .taken)
 
 join-requires : tie.Need-join-requires
@@ -16,6 +18,7 @@ same-length : tie.Need-same-length
 same-length c = search needs
 
 returns-2 : tie.Need-returns-2
+unfolding keyOf
 returns-2 c = keep-one _ _ (c .before .before .before .before .before .occurs .ensures) (c .before .before .before .before .if1 .left) (c .before .before .join .ensures)
 
 pub keep-name-spec : {M : Type 1} → statement M

@@ -10,8 +10,11 @@ use Rattle.envelope.proofs.attributes_fit.Tie as tie
 returns : tie.Need-returns
 returns c = sym (attributes-absent _ _ _ _ (not-true _ (c .if1 .taken)))
 
+new-until-requires : tie.Need-new-until-requires
+new-until-requires c κs = search needs
+
 each-attribute-requires : tie.Need-each-attribute-requires
-each-attribute-requires c κs = search needs
+each-attribute-requires c κs = c .new-until .ensures
 
 enum-known-o : tie.Need-enum-known-o
 enum-known-o c = search needs
@@ -19,7 +22,7 @@ enum-known-o c = search needs
 returns-2 : tie.Need-returns-2
 returns-2 c =
     let c3 = c .before .before .before in
-    sym (attributes-run _ _ _ _ (not-false _ (c3 .before .if1 .left)) ∙ then-breaks _ (sym (c3 .each-attribute .ensures) ∙ c .before .o .given .1))
+    sym (attributes-run _ _ _ _ (not-false _ (c3 .before .before .if1 .left)) ∙ then-breaks _ (sym (c3 .each-attribute .ensures) ∙ c .before .o .given .1))
 
 enum-told : tie.Need-enum-told
 enum-told c = search needs
@@ -33,11 +36,10 @@ has-type-requires c κs = search needs
 returns-3 : tie.Need-returns-3
 returns-3 c =
     let c3 = c .before .before .before in
-    let c6 = c3 .before .before .before in
-    let c10 = c6 .before .before .before .before in
-    let a = c10 .args in
+    let c7 = c3 .before .before .before .before in
+    let a = c7 .before .before .before .before .args in
     sym
-    (attributes-run _ _ _ _ (not-false _ (c6 .if1 .left))
+    (attributes-run _ _ _ _ (not-false _ (c7 .if1 .left))
     ∙ then-fits _ (sym (c3 .before .before .each-attribute .ensures) ∙ c3 .enum-told .given .1)
     ∙ held-breaks _ (types-first (a .s .now) (a .attributes) (c .before .has-type .ensures) (not-true _ (c .if2 .taken))))
 
@@ -50,11 +52,10 @@ has-type-requires-2 c κs = search needs
 returns-4 : tie.Need-returns-4
 returns-4 c =
     let c6 = c .before .before .before .before .before .before in
-    let c9 = c6 .before .before .before in
-    let c13 = c9 .before .before .before .before in
-    let a = c13 .args in
+    let c10 = c6 .before .before .before .before in
+    let a = c10 .before .before .before .before .args in
     sym
-    (attributes-run _ _ _ _ (not-false _ (c9 .if1 .left))
+    (attributes-run _ _ _ _ (not-false _ (c10 .if1 .left))
     ∙ then-fits _ (sym (c6 .before .before .each-attribute .ensures) ∙ c6 .enum-told .given .1)
     ∙ held-breaks _ (types-second (a .s .now) (a .attributes) (c .before .has-type2 .ensures) (not-true _ (c .if3 .taken))))
 
@@ -62,13 +63,12 @@ returns-5 : tie.Need-returns-5
 returns-5 c =
     let c3 = c .before .before .before in
     let c6 = c3 .before .before .before in
-    let c9 = c6 .before .before .before in
-    let c13 = c9 .before .before .before .before in
-    let a = c13 .args in
+    let c10 = c6 .before .before .before .before in
+    let a = c10 .before .before .before .before .args in
     let p = not-false _ (c3 .if2 .left) in
     let q = not-false _ (c .if3 .left) in
     sym
-    (attributes-run _ _ _ _ (not-false _ (c9 .if1 .left))
+    (attributes-run _ _ _ _ (not-false _ (c10 .if1 .left))
     ∙ then-fits _ (sym (c6 .before .before .each-attribute .ensures) ∙ c6 .enum-told .given .1)
     ∙ held-fits _ (types-both (a .s .now) (a .attributes) (c3 .before .has-type .ensures) p (c .before .has-type2 .ensures) q))
 
@@ -77,6 +77,7 @@ attributes-fit-spec =
     tie.close
     (tie.spec
     returns
+    new-until-requires
     each-attribute-requires
     enum-known-o
     returns-2

@@ -17,33 +17,19 @@ in-order-requires c κs = search needs
 
 returns : tie.Need-returns
 returns c =
-    let c3 = c .before .before .before in
-    let a = c3 .before .before .args in
-    let o = sym (c .before .in-order .ensures) ∙ not-true _ (c .if1 .taken) in
-    placed-not (a .s .now) (a .attributes) (a .former) (a .e) (c3 .whole .ensures) (c .before .before .whole2 .ensures) o
+    let a = c .before .before .before .before .before .args in
+    placed-not (a .s .now) (a .attributes) (a .former) (a .e) (c .before .before .before .whole .ensures) (c .before .before .whole2 .ensures) (sym (c .before .in-order .ensures) ∙ not-true _ (c .if1 .taken))
 
-attr-type-requires : tie.Need-attr-type-requires
-attr-type-requires c κs = search needs
-
-has-type-requires : tie.Need-has-type-requires
-has-type-requires c κs = search needs
+is-new-requires : tie.Need-is-new-requires
+is-new-requires c κs = c .before .before .before .before .before .pre
 
 returns-2 : tie.Need-returns-2
 returns-2 c =
-    let a = c .before .before .before .before .before .before .before .args in
-    let o = sym (c .before .before .before .in-order .ensures) ∙ not-false _ (c .before .before .if1 .left) in
-    let w = c .before .before .before .before .before .whole .ensures in
-    let v = c .before .before .before .before .whole2 .ensures in
-    placed-if (a .s .now) (a .attributes) (a .former) (a .e) w v o (c .before .attr-type .ensures) (c .has-type .ensures)
+    let a = c .before .before .before .before .before .before .args in
+    let o = sym (c .before .before .in-order .ensures) ∙ not-false _ (c .before .if1 .left) in
+    placed-if (a .s .now) (a .attributes) (a .former) (a .e) (c .before .before .before .before .whole .ensures) (c .before .before .before .whole2 .ensures) o (c .is-new .ensures)
 
 pub is-in-place-spec : {M : Type 1} → statement M
 is-in-place-spec =
     tie.close
-    (tie.spec
-    whole-requires
-    whole-requires-2
-    in-order-requires
-    returns
-    attr-type-requires
-    has-type-requires
-    returns-2)
+    (tie.spec whole-requires whole-requires-2 in-order-requires returns is-new-requires returns-2)

@@ -1,0 +1,4 @@
+pub mod Keys
+pub mod Numbers
+pub mod Steps
+pub mod Answers

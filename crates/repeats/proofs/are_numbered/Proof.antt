@@ -1,0 +1,53 @@
+-- `repeats::are_numbered` meets its contract. Assumes nothing.
+use borrow.Author.Needs.{needs}
+use mathlib.Core.Bool.{false≢true}
+use mathlib.Core.Path.{sym, _∙_}
+use Rattle.repeats.specs.Tree.{find}
+use Rattle.repeats.proofs.Numbers.{numbered-distinct, numbered-append}
+use Rattle.repeats.proofs.are_numbered.Statement.{statement}
+use Rattle.repeats.proofs.are_numbered.Tie as tie
+
+number-requires : tie.Need-number-requires
+number-requires c κs = search needs
+
+enum-known-n : tie.Need-enum-known-n
+enum-known-n c = search needs
+
+enum-told : tie.Need-enum-told
+enum-told c = search needs
+
+returns : tie.Need-returns
+returns c = λ e. absurd (false≢true e)
+
+number-requires-2 : tie.Need-number-requires-2
+number-requires-2 c κs = search needs
+
+enum-told-2 : tie.Need-enum-told-2
+enum-told-2 c = search needs
+
+enum-told-3 : tie.Need-enum-told-3
+enum-told-3 c = search needs
+
+returns-2 : tie.Need-returns-2
+returns-2 c = λ e. absurd (false≢true e)
+
+returns-3 : tie.Need-returns-3
+returns-3 c =
+    let a = c .before .before .before .before .before .before .before .before .before .args in
+    let f = find (a .tree .now) in
+    let n = sym (c .before .before .before .before .before .before .number .ensures) ∙ c .before .before .before .before .n .given .1 in
+    λ e. numbered-distinct f 0 _ (numbered-append f 0 _ _ n (sym (c .before .before .number2 .ensures) ∙ c .enum-told2 .given .1))
+
+pub are-numbered-spec : {M : Type 1} → statement M
+are-numbered-spec =
+    tie.close
+    (tie.spec
+    number-requires
+    enum-known-n
+    enum-told
+    returns
+    number-requires-2
+    enum-told-2
+    enum-told-3
+    returns-2
+    returns-3)

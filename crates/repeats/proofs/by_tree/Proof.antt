@@ -1,0 +1,41 @@
+-- `repeats::by_tree` meets its contract. Assumes nothing.
+use borrow.Author.Needs.{needs}
+use Rattle.repeats.proofs.by_tree.Statement.{statement}
+use Rattle.repeats.proofs.by_tree.Tie as tie
+
+slice-aggregate-plant-both : tie.Need-slice-aggregate-plant-both
+slice-aggregate-plant-both c = search needs
+
+plant-both-requires : tie.Need-plant-both-requires
+plant-both-requires c κs = search needs
+
+slice-aggregate-are-numbered : tie.Need-slice-aggregate-are-numbered
+slice-aggregate-are-numbered c = search needs
+
+are-numbered-requires : tie.Need-are-numbered-requires
+are-numbered-requires c κs = search needs
+
+returns : tie.Need-returns
+returns c = c .before .are-numbered .ensures (c .if1 .taken)
+
+is-repeated-requires : tie.Need-is-repeated-requires
+is-repeated-requires c κs = search needs
+
+returns-2 : tie.Need-returns-2
+returns-2 c = c .before .is-repeated .ensures (c .if2 .taken)
+
+returns-3 : tie.Need-returns-3
+returns-3 c = tt
+
+pub by-tree-spec : {M : Type 1} → statement M
+by-tree-spec =
+    tie.close
+    (tie.spec
+    slice-aggregate-plant-both
+    plant-both-requires
+    slice-aggregate-are-numbered
+    are-numbered-requires
+    returns
+    is-repeated-requires
+    returns-2
+    returns-3)

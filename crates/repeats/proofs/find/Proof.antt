@@ -1,0 +1,90 @@
+use borrow.Author.Needs.{needs}
+-- `repeats::find` meets its contract: what is left of the way leads where the whole leads. Assumes nothing.
+use mathlib.Core.Path.{_≡_, refl, sym, ap, _∙_}
+use native.Mathlib.Omega.{arith}
+use Prim.Native.Nat.{_<_}
+use Rattle.repeats.specs.Tree.{findFrom, find}
+use Rattle.repeats.proofs.Steps.{find-end, find-member, find-turn}
+use Rattle.repeats.proofs.find.Statement.{statement}
+use Rattle.repeats.proofs.find.Tie as tie
+
+abbrev Inv-loop : tie.InvT-loop
+Inv-loop tree k r₀ left₀ r left = (findFrom left tree k r ≡ find tree k) × (r < 65536)
+
+abbrev μ-loop : tie.MeasureT-loop
+μ-loop tree k r₀ left₀ r left = left
+
+loop-holds : tie.Need-loop-holds Inv-loop μ-loop
+loop-holds c = (refl, omega arith)
+
+returns : tie.Need-returns Inv-loop μ-loop
+returns c =
+    let a = c .before .before .before .before .before .args in
+    let l = c .before .before .loop in
+    (sym (find-member (a .tree .now) (a .k .now) (l .left) (l .r) (c .before .loop-test .taken) (c .if1 .taken)) ∙ l .inv .0, omega arith)
+
+mul-node : tie.Need-mul-node Inv-loop μ-loop
+mul-node c = search needs
+
+cell-requires : tie.Need-cell-requires Inv-loop μ-loop
+cell-requires c κs = search needs
+
+add-cell : tie.Need-add-cell Inv-loop μ-loop
+add-cell c = search needs
+
+cell-requires-2 : tie.Need-cell-requires-2 Inv-loop μ-loop
+cell-requires-2 c κs = search needs
+
+digit-requires : tie.Need-digit-requires Inv-loop μ-loop
+digit-requires c κs = search needs
+
+add-cell-2 : tie.Need-add-cell-2 Inv-loop μ-loop
+add-cell-2 c = search needs
+
+add-cell-3 : tie.Need-add-cell-3 Inv-loop μ-loop
+add-cell-3 c = search needs
+
+cell-requires-3 : tie.Need-cell-requires-3 Inv-loop μ-loop
+cell-requires-3 c κs = search needs
+
+sub-left : tie.Need-sub-left Inv-loop μ-loop
+sub-left c = search needs
+
+loop-less : tie.Need-loop-less Inv-loop μ-loop
+loop-less c = search needs
+
+loop-again : tie.Need-loop-again Inv-loop μ-loop
+loop-again c =
+    let a = c .before .before .before .before .before .before .before .before .before .args in
+    let l = c .before .before .before .before .before .before .loop in (
+      find-turn (a .tree .now) (a .k .now) (l .left) (l .r) (c .before .before .before .before .before .loop-test .taken) (c .before .before .before .before .if1 .left) (c .before .before .before .cell .ensures .0) (c .before .before .cell2 .ensures .0) (c .before .digit .ensures .0) (c .cell3 .ensures .0)
+          ∙ l .inv .0,
+      c .cell3 .ensures .1,
+    )
+
+returns-2 : tie.Need-returns-2 Inv-loop μ-loop
+returns-2 c =
+    let a = c .before .before .before .before .args in
+    let l = c .before .loop in
+    (sym (find-end (a .tree .now) (a .k .now) (l .left) (l .r) (omega arith)) ∙ l .inv .0, omega arith)
+
+pub find-spec : {M : Type 1} → statement M
+find-spec =
+    tie.close
+    (tie.spec
+    Inv-loop
+    μ-loop
+    loop-holds
+    returns
+    mul-node
+    cell-requires
+    add-cell
+    cell-requires-2
+    digit-requires
+    add-cell-2
+    add-cell-3
+    cell-requires-3
+    sub-left
+    loop-less
+    loop-again
+    returns-2)

@@ -1,0 +1,58 @@
+-- The tree that tells of repeats. It is read as it stands, and nothing is asked of it: whatever its cells hold, it leads from equal keys to one number, so that
+-- members whose keys lead each to its own number have keys that differ.
+use Prim.Native.Nat.{ℕ, zero, suc, _+_, _*_, _/_, _%_}
+use mathlib.Core.Bool.{Bool, true, false}
+use mathlib.Core.List.{List, [], _∷_}
+use mathlib.Core.Path.{_≡_}
+use lib.ListN.{length, getD}
+use lib.Dec.{eqb, ltb}
+use Rattle.octets.specs.Octets.{octet}
+use Rattle.repeats.specs.declared.Numbered.{Numbered}
+use Rattle.repeats.specs.declared.Numbered.the-variants.{All, Not}
+use Rattle.repeats.specs.declared.Told.{Told}
+use Rattle.repeats.specs.declared.Told.the-variants.{Distinct, Repeated, Nothing}
+
+-- the size of the tree
+abbrev pub cells : ℕ
+cells = 20_480
+
+-- a cell, 0 behind the end
+abbrev pub cell : List ℕ → ℕ → ℕ
+cell tree i = getD tree i 0
+
+-- an octet with a digit more in front, which no octet behind the end has
+unfoldable pub extended : List ℕ → ℕ → ℕ
+extended key place = elim (ltb place (length key)) [ true ↦ 256 + octet key place | false ↦ 0 ]
+
+-- its digit of the weight below + 1, to the base 2
+abbrev pub digit : List ℕ → ℕ → ℕ → ℕ
+digit key place below = extended key place / (below + 1) % 2
+
+-- what hangs at the key's digit, at the node with these cells
+abbrev pub child : List ℕ → List ℕ → ℕ → ℕ
+child tree key node = cell tree (node + 2 + digit key (cell tree node) (cell tree (node + 1)))
+
+-- the number of the member that the key leads to from r, in at most n steps: an odd r is a member, an even one a node
+unfoldable pub findFrom : ℕ → List ℕ → List ℕ → ℕ → ℕ
+findFrom zero tree key r = r / 2
+findFrom (suc n) tree key r = elim (eqb (r % 2) 1) [ true ↦ r / 2 | false ↦ findFrom n tree key (child tree key (5 * (r / 2))) ]
+
+abbrev pub find : List ℕ → List ℕ → ℕ
+find tree key = findFrom (length tree) tree key 0
+
+-- each key leads to its own number, counted from n on
+unfoldable pub numbered : (List ℕ → ℕ) → ℕ → List (List ℕ) → Numbered
+numbered find n [] = All n
+numbered find n (k ∷ keys) = elim (eqb (find k) n) [ true ↦ numbered find (n + 1) keys | false ↦ Not ]
+
+-- what is told is so
+abbrev pub tells : Told → Bool → Type 0
+tells Distinct d = d ≡ true
+tells Repeated d = d ≡ false
+tells Nothing d = Unit {0}
+
+-- .. and where nothing is told, it is so of what is left
+abbrev pub leaves : Told → Bool → Bool → Type 0
+leaves Distinct d left = d ≡ true
+leaves Repeated d left = d ≡ false
+leaves Nothing d left = d ≡ left
