@@ -10,7 +10,7 @@ use borrow.Author.Tests.{leb-true, leb-false}
 use Rattle.octets.specs.Status.{success, notAuthorized, apexTAMPAnchor, trustAnchorNotFound}
 use Rattle.octets.specs.First.{givenIf}
 use Rattle.octets.specs.Lists.{anyOf, keep}
-use Rattle.octets.proofs.Lists.{by-test}
+use Rattle.octets.proofs.Lists.{by-test, distinct-parts}
 use Rattle.rights.specs.Rights.{Rights}
 use Rattle.rights.specs.Decision.{within}
 use Rattle.anchor.specs.Info.{rightsOf}
@@ -23,7 +23,7 @@ use Rattle.store.specs.Parts.{infoIn, isSought, firstFrom}
 use Rattle.store.proofs.Parts.{isAt, first-any}
 use Rattle.edit.specs.Steps.{withOthers}
 use Rattle.protocol.specs.Update.{Step, hasKey, without, removed}
-use Rattle.protocol.proofs.Lists.{keep-append, distinct-parts}
+use Rattle.protocol.proofs.Lists.{keep-append}
 use Rattle.protocol.proofs.WellFormed.{GoodAnchors, good-removed}
 use Rattle.apply.specs.declared.Applied.the-variants.{Done, Failed}
 use Rattle.apply.specs.Scratch.{Holds, Scratch, infoAt}

@@ -5,11 +5,10 @@ use mathlib.Core.List.{List, [], _∷_, _++_, map}
 use mathlib.Core.Path.{_≡_, refl, sym, ap, ap₂, _∙_}
 use Rattle.octets.specs.Lists.{anyOf}
 use Rattle.octets.specs.Octets.{same, member, distinct}
-use Rattle.octets.proofs.Lists.{both, neither, same-answer, same-refl, same→≡, same-sym}
+use Rattle.octets.proofs.Lists.{both, neither, same-answer, same-refl, same→≡, same-sym, distinct-parts}
 use Rattle.anchor.specs.Info.{publicKey}
 use Rattle.store.specs.Store.{Anchor, keyOf}
 use Rattle.protocol.specs.Update.{hasKey}
-use Rattle.protocol.proofs.Lists.{distinct-parts}
 use Rattle.apply.proofs.Found.{First, any-less, any-one}
 
 none-has : (key : List ℕ) (l : List Anchor) → member key (map keyOf l) ≡ false → anyOf (hasKey key) l ≡ false

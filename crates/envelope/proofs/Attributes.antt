@@ -8,7 +8,7 @@ use mathlib.Core.Path.{_≡_, refl, sym, ap, ap₂, _∙_}
 use Rattle.octets.specs.Lists.{anyOf}
 use Rattle.octets.specs.Octets.{same, member, distinct, ordered}
 use Rattle.octets.specs.Number.{digits}
-use Rattle.octets.proofs.Lists.{both}
+use Rattle.octets.proofs.Lists.{both, distinct-none}
 use Rattle.der.specs.declared.Element.{Element}
 use Rattle.der.specs.declared.Fit.{Fit}
 use Rattle.der.specs.declared.Fit.the-variants.{Breaks}
@@ -19,7 +19,7 @@ use Rattle.der.proofs.Elements.{good-within}
 use Rattle.der.proofs.Runs.{Reached, reached-head}
 use Rattle.repeats.specs.Keys.{keyOf}
 use Rattle.repeats.specs.declared.Compared.the-variants.{Types}
-use Rattle.repeats.proofs.Keys.{keys-end, distinct-none, distinct-before}
+use Rattle.repeats.proofs.Keys.{keys-end, distinct-before}
 use Rattle.der.proofs.Bools.{and-false, on-true, on-false}
 use Rattle.syntax.specs.Grammar.{Syntax, free, obeys, tagged, equals, fit}
 use Rattle.syntax.specs.Asn.{Attribute}

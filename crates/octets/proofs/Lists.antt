@@ -1,14 +1,14 @@
--- Laws of the tests on lists (specs/Lists) and of `same` and `member` (specs/Octets).
+-- Laws of the tests on lists (specs/Lists) and of `same`, `member` and `distinct` (specs/Octets).
 use Prim.Native.Nat.{ℕ, _≤_, _<_}
 use native.Mathlib.Omega.{arith}
-use mathlib.Core.Bool.{Bool, true, false, _&&_, _||_, and-eq-true-iff, true≢false, false≢true}
+use mathlib.Core.Bool.{Bool, true, false, not, _&&_, _||_, and-eq-true-iff, true≢false, false≢true}
 use mathlib.Core.List.{List, [], _∷_, _++_}
 use mathlib.Core.Path.{_≡_, refl, sym, _∙_, ap, ap₂}
 use lib.ListN.{length}
 use lib.Dec.{eqb}
 use borrow.Author.Tests.{eqb-true, eq-eqb}
-use Rattle.octets.specs.Lists.{allOf, anyOf, keep}
-use Rattle.octets.specs.Octets.{same, member}
+use Rattle.octets.specs.Lists.{allOf, anyOf, keep, distinctBy}
+use Rattle.octets.specs.Octets.{same, member, distinct}
 
 -- a test has one of two answers, and each case knows which
 pub by-test : {P : Type 0} (b : Bool) → (b ≡ true → P) → (b ≡ false → P) → P
@@ -140,3 +140,24 @@ keep-shorter p (x ∷ l) k m e =
     (λ h.
     let i = keep-shorter p l k h e in
     by-test (p x) (λ t. omega (arith, ap length (keep-in p x l t))) (λ t. omega (arith, ap length (keep-out p x l t))))
+
+-- no two equal
+
+pub member-none : (k : List ℕ) → member k [] ≡ false
+unfolding member anyOf
+member-none k = refl
+
+pub distinct-none : distinct [] ≡ true
+unfolding distinct distinctBy
+distinct-none = refl
+
+-- the first is in none of the others
+pub distinct-first : (k : List ℕ) (l : List (List ℕ)) → distinct (k ∷ l) ≡ not (member k l) && distinct l
+unfolding distinct distinctBy member
+distinct-first k l = refl
+
+pub distinct-parts : (k : List ℕ) (l : List (List ℕ)) → distinct (k ∷ l) ≡ true → (member k l ≡ false) × (distinct l ≡ true)
+distinct-parts k l h =
+    by-test (member k l)
+    (λ t. absurd (true≢false (sym h ∙ distinct-first k l ∙ rw t)))
+    (λ t. (t, sym (distinct-first k l ∙ rw t) ∙ h))

@@ -7,7 +7,7 @@ use Rattle.octets.specs.First.{givenIf}
 use borrow.Author.Tests.{not-true}
 use Rattle.octets.specs.Lists.{anyOf, allOf, keep, distinctBy}
 use Rattle.octets.specs.Octets.{same, member, distinct}
-use Rattle.octets.proofs.Lists.{by-test, both, neither, same-sym, allOf-weaken, keep-in, keep-out, member-append}
+use Rattle.octets.proofs.Lists.{by-test, both, neither, same-sym, allOf-weaken, keep-in, keep-out, member-append, distinct-parts}
 
 module _ {A : Type 0} where
   -- what holds of the answer where its test applies, and of the next where it does not
@@ -146,19 +146,9 @@ anyOf-map p f (x ∷ l) = ap (λ b. p (f x) || b) (anyOf-map p f l)
 
 -- no two equal
 
-pub distinct-parts : (k : List ℕ) (l : List (List ℕ)) → distinct (k ∷ l) ≡ true → (member k l ≡ false) × (distinct l ≡ true)
-unfolding distinct distinctBy member
-distinct-parts k l e =
-    let h = and-eq-true-iff (not (anyOf (same k) l)) (distinctBy same l) .0 e in
-    (not-true _ (h .0), h .1)
-
 pub distinct-cons : (k : List ℕ) (l : List (List ℕ)) → member k l ≡ false → distinct l ≡ true → distinct (k ∷ l) ≡ true
 unfolding distinct distinctBy member
 distinct-cons k l m d = both (ap not m) d
-
-pub distinct-none : distinct [] ≡ true
-unfolding distinct distinctBy
-distinct-none = refl
 
 pub distinct-one : (k : List ℕ) → distinct (k ∷ []) ≡ true
 unfolding distinct distinctBy anyOf

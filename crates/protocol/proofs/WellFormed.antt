@@ -12,7 +12,7 @@ use Rattle.octets.specs.declared.Status.{Status}
 use Rattle.octets.specs.Limits.{maxAnchors, maxCommunities, maxName, maxNumber, maxUpdates}
 use Rattle.octets.specs.Lists.{allOf, anyOf, keep}
 use Rattle.octets.specs.Octets.{Octets, same, member, distinct}
-use Rattle.octets.proofs.Lists.{by-test, both, neither, keep-in, keep-length}
+use Rattle.octets.proofs.Lists.{by-test, both, neither, keep-in, keep-length, distinct-none}
 use Rattle.der.specs.Element.{whole}
 use Rattle.der.specs.Contents.{oidOk}
 use Rattle.syntax.specs.declared.TampType.{TampType}
@@ -55,7 +55,6 @@ use Rattle.protocol.proofs.Lists.{
   anyOf-false,
   not-member,
   distinct-one,
-  distinct-none,
   distinct-kept,
   allOf-and,
   distinct-append,

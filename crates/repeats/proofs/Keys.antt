@@ -7,9 +7,9 @@ use mathlib.Core.Path.{_≡_, refl, sym, ap, _∙_}
 use lib.ListN.{length}
 use lib.Dec.{leb}
 use borrow.Author.Tests.{leb-true}
-use Rattle.octets.specs.Lists.{anyOf, keep, distinctBy}
+use Rattle.octets.specs.Lists.{anyOf, keep}
 use Rattle.octets.specs.Octets.{same, member, distinct}
-use Rattle.octets.proofs.Lists.{by-test, same-refl, same→≡, member-append, keep-in, keep-out}
+use Rattle.octets.proofs.Lists.{by-test, same-refl, same→≡, member-append, keep-in, keep-out, member-none, distinct-first, distinct-parts}
 use Rattle.der.specs.declared.Element.{Element}
 use Rattle.der.specs.Element.{absent, elementAt, nextAt}
 use Rattle.der.proofs.Elements.{elements-end}
@@ -40,23 +40,11 @@ module _ (x : List ℕ) {l : List (List ℕ)} {k : List ℕ} {r : List (List ℕ
   pub member-miss : same x k ≡ false → member x l ≡ member x r
   member-miss t = ap (member x) e ∙ member-cons x k r ∙ rw t
 
-pub member-none : (x : List ℕ) → member x [] ≡ false
-unfolding member anyOf
-member-none x = refl
-
 pub member-first : (x : List ℕ) (a b : List (List ℕ)) → member x a ≡ true → member x (a ++ b) ≡ true
 member-first x a b h = member-append x a b ∙ rw h
 
 pub member-both : (x : List ℕ) (a b : List (List ℕ)) → member x a ≡ false → member x (a ++ b) ≡ member x b
 member-both x a b h = member-append x a b ∙ rw h
-
-pub distinct-cons : (k : List ℕ) (l : List (List ℕ)) → distinct (k ∷ l) ≡ not (member k l) && distinct l
-unfolding distinct distinctBy member
-distinct-cons k l = refl
-
-pub distinct-none : distinct [] ≡ true
-unfolding distinct distinctBy
-distinct-none = refl
 
 -- how often a key stands in a list
 
@@ -101,12 +89,6 @@ module _ (x : List ℕ) {l : List (List ℕ)} {k : List ℕ} {r : List (List ℕ
   pub count-twice : same x k ≡ true → member x r ≡ true → 2 ≤ count x l
   count-twice t h = omega (arith, ap (count x) e, count-hit x k r t, present-count x r h)
 
-pub distinct-parts : (k : List ℕ) (l : List (List ℕ)) → distinct (k ∷ l) ≡ true → (member k l ≡ false) × (distinct l ≡ true)
-distinct-parts k l h =
-    by-test (member k l)
-    (λ t. absurd (true≢false (sym h ∙ distinct-cons k l ∙ rw t)))
-    (λ t. (t, sym (distinct-cons k l ∙ rw t) ∙ h))
-
 -- where no two are equal, none stands twice
 pub distinct-count : (k : List ℕ) (l : List (List ℕ)) → distinct l ≡ true → count k l ≤ 1
 distinct-count k [] h = omega (arith, count-none k)
@@ -125,14 +107,14 @@ counted-twice k a b {x} {y} p q t =
 
 -- a list of which the first member is compared with the others, and with those of another list
 module _ {l : List (List ℕ)} {k : List ℕ} {r : List (List ℕ)} (e : l ≡ k ∷ r) (b : List (List ℕ)) where
-  distinct-first : distinct (l ++ b) ≡ not (member k (r ++ b)) && distinct (r ++ b)
-  distinct-first = ap (λ (x : List (List ℕ)). distinct (x ++ b)) e ∙ distinct-cons k (r ++ b)
+  first-of : distinct (l ++ b) ≡ not (member k (r ++ b)) && distinct (r ++ b)
+  first-of = ap (λ (x : List (List ℕ)). distinct (x ++ b)) e ∙ distinct-first k (r ++ b)
 
   pub first-recurs : member k (r ++ b) ≡ true → distinct (l ++ b) ≡ false
-  first-recurs t = distinct-first ∙ rw t
+  first-recurs t = first-of ∙ rw t
 
   pub first-apart : member k (r ++ b) ≡ false → distinct (l ++ b) ≡ distinct (r ++ b)
-  first-apart t = distinct-first ∙ rw t
+  first-apart t = first-of ∙ rw t
 
 -- where no two are equal, none stands before itself
 pub distinct-before : (a : List (List ℕ)) (k : List ℕ) (b : List (List ℕ)) → distinct (a ++ (k ∷ b)) ≡ true → member k a ≡ false

@@ -8,7 +8,7 @@ use lib.Dec.{eqb}
 use borrow.Author.Tests.{eqb-true, eqb-false, eq-eqb, ne-eqb}
 use Rattle.octets.specs.Lists.{anyOf}
 use Rattle.octets.specs.Octets.{same, member, distinct}
-use Rattle.octets.proofs.Lists.{by-test, same→≡}
+use Rattle.octets.proofs.Lists.{by-test, same→≡, distinct-none, distinct-first}
 use Rattle.der.specs.declared.Element.{Element}
 use Rattle.der.specs.Element.{elementAt, nextAt}
 use Rattle.repeats.specs.declared.Compared.{Compared}
@@ -16,7 +16,7 @@ use Rattle.repeats.specs.declared.Numbered.{Numbered}
 use Rattle.repeats.specs.declared.Numbered.the-variants.{All, Not}
 use Rattle.repeats.specs.Keys.{keyOf, keysFrom}
 use Rattle.repeats.specs.Tree.{numbered}
-use Rattle.repeats.proofs.Keys.{keys-end, keys-turn, member-cons, distinct-cons, distinct-none}
+use Rattle.repeats.proofs.Keys.{keys-end, keys-turn, member-cons}
 
 abbrev isAll : Numbered → Bool
 isAll (All n) = true
@@ -58,7 +58,7 @@ module _ (find : List ℕ → ℕ) where
   numbered-distinct n (x ∷ l) h =
       let p = numbered-parts n x l h in
       let a = numbered-apart x (n + 1) l (omega (arith, p .0)) (p .1) in
-      distinct-cons x l ∙ rw (a, numbered-distinct (n + 1) l (p .1))
+      distinct-first x l ∙ rw (a, numbered-distinct (n + 1) l (p .1))
 
   pub numbered-append : (n : ℕ) (a b : List (List ℕ)) {m p : ℕ} → numbered find n a ≡ All m → numbered find m b ≡ All p → numbered find n (a ++ b) ≡ All p
   numbered-append n [] b {m} {p} h g = let e : n ≡ m = ap last (sym (numbered-none n) ∙ h) in rw e g

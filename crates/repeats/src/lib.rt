@@ -31,10 +31,10 @@ enum Told {
     Nothing,
 }
 
-// What was planted: the next number, and the place of a member whose key was there already, or could not be planted.
-struct Planted {
+// What was inserted: the next number, and the place of a candidate for a repeat: a member whose key was there already, or for which there is no room.
+struct Inserted {
     next: usize,
-    suspect: usize,
+    candidate: usize,
 }
 
 // So many members are compared before a tree is made.
@@ -239,7 +239,15 @@ fn cell_for(tree: &[u16], k: &[u8], place: usize, below: usize) -> usize
 }
 
 // Makes the node for member n, at a place, in the cell c: the member hangs at its key's digit d, what hung in the cell at the other.
-fn graft(tree: &mut [u16], n: usize, at: usize, c: usize, place: usize, below: usize, d: usize)
+fn insert_node(
+    tree: &mut [u16],
+    n: usize,
+    at: usize,
+    c: usize,
+    place: usize,
+    below: usize,
+    d: usize,
+)
     requires { ⌜ (length (now tree) ≡ cells)
         × ((n < 4096) × ((at < 65536) × ((c < cells) × ((place < 65536) × ((below < 65536) × (d < 2)))))) ⌝ }
     ensures { λ r. ⌜ length (now (tree .exit)) ≡ cells ⌝ }
@@ -254,8 +262,8 @@ fn graft(tree: &mut [u16], n: usize, at: usize, c: usize, place: usize, below: u
     tree[c] = (2 * n) as u16;
 }
 
-// Plants member n, unless its key is there already.
-fn insert(tree: &mut [u16], s: &[u8], e: Element, by: Compared, n: usize) -> bool
+// Inserts member n, unless its key is there already.
+fn insert_member(tree: &mut [u16], s: &[u8], e: Element, by: Compared, n: usize) -> bool
     requires { ⌜ (length (now tree) ≡ cells) × (n < 4096) ⌝ }
     ensures { λ r. ⌜ length (now (tree .exit)) ≡ cells ⌝ }
 {
@@ -265,7 +273,7 @@ fn insert(tree: &mut [u16], s: &[u8], e: Element, by: Compared, n: usize) -> boo
     }
     if n == 0 {
         // the first node asks for an octet that no key has
-        graft(tree, 0, at, 1, MAX_CELL, 0, 0);
+        insert_node(tree, 0, at, 1, MAX_CELL, 0, 0);
         return true;
     }
     let k = key(s, e, by);
@@ -283,37 +291,44 @@ fn insert(tree: &mut [u16], s: &[u8], e: Element, by: Compared, n: usize) -> boo
     let m = below(x, y);
     let d = digit(k, p, m);
     let c = cell_for(tree, k, p, m);
-    graft(tree, n, at, c, p, m, d);
+    insert_node(tree, n, at, c, p, m, d);
     true
 }
 
-// Plants the members of a run, the first with the number n.
-fn plant(tree: &mut [u16], s: &[u8], at: usize, stop: usize, by: Compared, n: usize) -> Planted
+// Inserts the members of a run, the first with the number n.
+fn insert_run(
+    tree: &mut [u16],
+    s: &[u8],
+    at: usize,
+    stop: usize,
+    by: Compared,
+    n: usize,
+) -> Inserted
     requires { ⌜ length (now tree) ≡ cells ⌝ }
-    ensures { λ r. ⌜ (length (now (tree .exit)) ≡ cells) × (r .suspect ≤ stop) ⌝ }
+    ensures { λ r. ⌜ (length (now (tree .exit)) ≡ cells) × (r .candidate ≤ stop) ⌝ }
 {
     let mut k = n;
     let mut i = at;
     while i < stop {
         if MEMBERS <= k {
-            return Planted {
+            return Inserted {
                 next: k,
-                suspect: i,
+                candidate: i,
             };
         }
         let e = der::element_at(s, i, stop);
-        if !insert(tree, s, e, by, k) {
-            return Planted {
+        if !insert_member(tree, s, e, by, k) {
+            return Inserted {
                 next: k,
-                suspect: i,
+                candidate: i,
             };
         }
         k += 1;
         i = der::next(e, stop);
     }
-    Planted {
+    Inserted {
         next: k,
-        suspect: stop,
+        candidate: stop,
     }
 }
 
@@ -363,8 +378,8 @@ fn is_repeated(s: &[u8], place: usize, at: usize, stop: usize, other: Element, b
     2 <= n + count(s, other.start, other.stop, by, k)
 }
 
-// Plants both runs, one behind the other. Gives the place of a suspect, or an end.
-fn plant_both(
+// Inserts both runs, one behind the other. Gives the place of a candidate, or an end.
+fn insert_runs(
     tree: &mut [u16],
     s: &[u8],
     at: usize,
@@ -375,12 +390,12 @@ fn plant_both(
     requires { ⌜ length (now tree) ≡ cells ⌝ }
     ensures { λ r. ⌜ length (now (tree .exit)) ≡ cells ⌝ }
 {
-    let first = plant(tree, s, at, stop, by, 0);
-    if first.suspect != stop {
-        return first.suspect;
+    let first = insert_run(tree, s, at, stop, by, 0);
+    if first.candidate != stop {
+        return first.candidate;
     }
-    let second = plant(tree, s, other.start, other.stop, by, first.next);
-    second.suspect
+    let second = insert_run(tree, s, other.start, other.stop, by, first.next);
+    second.candidate
 }
 
 // What a tree tells of the run from at up to stop, and the list behind it.
@@ -388,11 +403,11 @@ fn by_tree(s: &[u8], at: usize, stop: usize, other: Element, by: Compared) -> To
     ensures { λ r. ⌜ tells r (distinct (keysFrom by (now (s .entry)) at stop ++ keysIn by (now (s .entry)) other)) ⌝ }
 {
     let mut tree = [0u16; CELLS];
-    let suspect = plant_both(&mut tree, s, at, stop, other, by);
+    let candidate = insert_runs(&mut tree, s, at, stop, other, by);
     if are_numbered(&tree, s, at, stop, other, by) {
         return Told::Distinct;
     }
-    if is_repeated(s, suspect, at, stop, other, by) {
+    if is_repeated(s, candidate, at, stop, other, by) {
         return Told::Repeated;
     }
     Told::Nothing
@@ -429,6 +444,9 @@ fn compare(s: &[u8], list: Element, other: Element, by: Compared) -> Told
 pub fn is_distinct(s: &[u8], list: Element, by: Compared) -> bool
     ensures { λ r. ⌜ r ≡ distinct (keysIn by (now (s .entry)) list) ⌝ }
 {
+    if list.stop <= list.start {
+        return true;
+    }
     match compare(s, list, der::no_element(0), by) {
         Told::Distinct => true,
         Told::Repeated => false,
@@ -452,10 +470,10 @@ pub fn distinct_until(s: &[u8], list: Element, by: Compared) -> usize
     ensures { λ r. ⌜ (distinct (keysFrom by (now (s .entry)) (list .start) r) ≡ true) × (list .start < r → r ≤ list .stop) ⌝ }
 {
     let mut tree = [0u16; CELLS];
-    let planted = plant(&mut tree, s, list.start, list.stop, by, 0);
-    let suspect = planted.suspect;
-    if are_numbered(&tree, s, list.start, suspect, der::no_element(0), by) {
-        return suspect;
+    let inserted = insert_run(&mut tree, s, list.start, list.stop, by, 0);
+    let candidate = inserted.candidate;
+    if are_numbered(&tree, s, list.start, candidate, der::no_element(0), by) {
+        return candidate;
     }
     list.start
 }

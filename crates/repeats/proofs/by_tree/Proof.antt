@@ -3,11 +3,11 @@ use borrow.Author.Needs.{needs}
 use Rattle.repeats.proofs.by_tree.Statement.{statement}
 use Rattle.repeats.proofs.by_tree.Tie as tie
 
-slice-aggregate-plant-both : tie.Need-slice-aggregate-plant-both
-slice-aggregate-plant-both c = search needs
+slice-aggregate-insert-runs : tie.Need-slice-aggregate-insert-runs
+slice-aggregate-insert-runs c = search needs
 
-plant-both-requires : tie.Need-plant-both-requires
-plant-both-requires c κs = search needs
+insert-runs-requires : tie.Need-insert-runs-requires
+insert-runs-requires c κs = search needs
 
 slice-aggregate-are-numbered : tie.Need-slice-aggregate-are-numbered
 slice-aggregate-are-numbered c = search needs
@@ -31,8 +31,8 @@ pub by-tree-spec : {M : Type 1} → statement M
 by-tree-spec =
     tie.close
     (tie.spec
-    slice-aggregate-plant-both
-    plant-both-requires
+    slice-aggregate-insert-runs
+    insert-runs-requires
     slice-aggregate-are-numbered
     are-numbered-requires
     returns

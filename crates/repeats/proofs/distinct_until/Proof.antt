@@ -3,15 +3,16 @@ use borrow.Author.Needs.{needs}
 use native.Mathlib.Omega.{arith}
 use mathlib.Core.Path.{sym, ap, _∙_}
 use Rattle.octets.specs.Octets.{distinct}
-use Rattle.repeats.proofs.Keys.{keys-end, none-behind, distinct-none}
+use Rattle.octets.proofs.Lists.{distinct-none}
+use Rattle.repeats.proofs.Keys.{keys-end, none-behind}
 use Rattle.repeats.proofs.distinct_until.Statement.{statement}
 use Rattle.repeats.proofs.distinct_until.Tie as tie
 
-slice-aggregate-plant : tie.Need-slice-aggregate-plant
-slice-aggregate-plant c = search needs
+slice-aggregate-insert-run : tie.Need-slice-aggregate-insert-run
+slice-aggregate-insert-run c = search needs
 
-plant-requires : tie.Need-plant-requires
-plant-requires c κs = search needs
+insert-run-requires : tie.Need-insert-run-requires
+insert-run-requires c κs = search needs
 
 slice-aggregate-are-numbered : tie.Need-slice-aggregate-are-numbered
 slice-aggregate-are-numbered c = search needs
@@ -25,7 +26,7 @@ are-numbered-requires c κs = search needs
 returns : tie.Need-returns
 returns c =
     let a = c .before .before .before .before .before .before .before .before .args in
-    (ap distinct (sym (none-behind (a .by) (a .s .now) (c .before .before .no-element .ensures) _)) ∙ c .before .are-numbered .ensures (c .if1 .taken), λ h. c .before .before .before .before .before .plant .ensures .1)
+    (ap distinct (sym (none-behind (a .by) (a .s .now) (c .before .before .no-element .ensures) _)) ∙ c .before .are-numbered .ensures (c .if1 .taken), λ h. c .before .before .before .before .before .insert-run .ensures .1)
 
 returns-2 : tie.Need-returns-2
 returns-2 c =
@@ -36,8 +37,8 @@ pub distinct-until-spec : {M : Type 1} → statement M
 distinct-until-spec =
     tie.close
     (tie.spec
-    slice-aggregate-plant
-    plant-requires
+    slice-aggregate-insert-run
+    insert-run-requires
     slice-aggregate-are-numbered
     no-element-requires
     are-numbered-requires

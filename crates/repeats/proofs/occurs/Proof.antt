@@ -6,7 +6,8 @@ use Prim.Native.Nat.{_-_}
 use Rattle.octets.specs.Octets.{member}
 use Rattle.der.proofs.Runs.{run-on}
 use Rattle.repeats.specs.Keys.{keysFrom}
-use Rattle.repeats.proofs.Keys.{keys-end, keys-turn, member-hit, member-miss, member-none}
+use Rattle.octets.proofs.Lists.{member-none}
+use Rattle.repeats.proofs.Keys.{keys-end, keys-turn, member-hit, member-miss}
 use Rattle.repeats.proofs.occurs.Statement.{statement}
 use Rattle.repeats.proofs.occurs.Tie as tie
 

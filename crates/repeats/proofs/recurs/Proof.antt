@@ -5,7 +5,8 @@ use mathlib.Core.List.{List}
 use mathlib.Core.Path.{sym, ap, _∙_}
 use Rattle.octets.specs.Octets.{member}
 use Rattle.repeats.specs.Keys.{keyOf, keysFrom, keysIn}
-use Rattle.repeats.proofs.Keys.{keys-end, member-none, member-first, member-both}
+use Rattle.octets.proofs.Lists.{member-none}
+use Rattle.repeats.proofs.Keys.{keys-end, member-first, member-both}
 use Rattle.repeats.proofs.recurs.Statement.{statement}
 use Rattle.repeats.proofs.recurs.Tie as tie
 

@@ -1,14 +1,14 @@
+-- `repeats::insert_member` meets its contract. Assumes nothing.
 use borrow.Author.Needs.{needs}
 use native.Mathlib.Omega.{arith}
--- `repeats::insert` meets its contract. Assumes nothing.
-use Rattle.repeats.proofs.insert.Statement.{statement}
-use Rattle.repeats.proofs.insert.Tie as tie
+use Rattle.repeats.proofs.insert_member.Statement.{statement}
+use Rattle.repeats.proofs.insert_member.Tie as tie
 
 returns : tie.Need-returns
 returns c = search needs
 
-graft-requires : tie.Need-graft-requires
-graft-requires c κs = search needs
+insert-node-requires : tie.Need-insert-node-requires
+insert-node-requires c κs = search needs
 
 same-length : tie.Need-same-length
 same-length c = search needs
@@ -67,8 +67,8 @@ digit-requires c κs = search needs
 cell-for-requires : tie.Need-cell-for-requires
 cell-for-requires c κs = c .before .before .before .before .before .before .before .before .before .before .before .before .before .before .before .before .before .before .pre .0
 
-graft-requires-2 : tie.Need-graft-requires-2
-graft-requires-2 c κs =
+insert-node-requires-2 : tie.Need-insert-node-requires-2
+insert-node-requires-2 c κs =
     let p = c .before .before .before .before .before .before .before .before .before .before .before .before .before .before .before .before .before .before .before .before .pre in
     (p .0, (p .1, (omega (arith, c .before .before .before .before .before .before .before .before .before .before .before .before .before .before .before .before .before .if1 .left), (c .before .cell-for .ensures, (omega (arith, c .before .before .before .before .before .if4 .left), (omega (arith, c .before .before .before .before .below .ensures), c .before .before .before .digit .ensures .1))))))
 
@@ -78,12 +78,12 @@ same-length-4 c = search needs
 returns-5 : tie.Need-returns-5
 returns-5 c = search needs
 
-pub insert-spec : {M : Type 1} → statement M
-insert-spec =
+pub insert-member-spec : {M : Type 1} → statement M
+insert-member-spec =
     tie.close
     (tie.spec
     returns
-    graft-requires
+    insert-node-requires
     same-length
     returns-2
     key-requires
@@ -103,6 +103,6 @@ insert-spec =
     below-requires
     digit-requires
     cell-for-requires
-    graft-requires-2
+    insert-node-requires-2
     same-length-4
     returns-5)

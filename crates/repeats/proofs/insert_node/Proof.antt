@@ -1,10 +1,10 @@
--- `repeats::graft` meets its contract. Assumes nothing.
+-- `repeats::insert_node` meets its contract. Assumes nothing.
 use borrow.Author.Needs.{needs}
 use native.Mathlib.Omega.{arith}
 use mathlib.Core.Path.{refl}
 use lib.ListN.{length-set}
-use Rattle.repeats.proofs.graft.Statement.{statement}
-use Rattle.repeats.proofs.graft.Tie as tie
+use Rattle.repeats.proofs.insert_node.Statement.{statement}
+use Rattle.repeats.proofs.insert_node.Tie as tie
 
 mul-node : tie.Need-mul-node
 mul-node c = search needs
@@ -99,8 +99,8 @@ same-length c = simp length-set refl
 returns : tie.Need-returns
 returns c = simp length-set (c .before .pre .0)
 
-pub graft-spec : {M : Type 1} → statement M
-graft-spec =
+pub insert-node-spec : {M : Type 1} → statement M
+insert-node-spec =
     tie.close
     (tie.spec
     mul-node

@@ -1,4 +1,4 @@
--- `repeats::plant` meets its contract. Assumes nothing.
+-- `repeats::insert_run` meets its contract. Assumes nothing.
 use borrow.Author.Needs.{needs}
 use mathlib.Core.Path.{_≡_}
 use native.Mathlib.Omega.{arith}
@@ -6,8 +6,8 @@ use Prim.Native.Nat.{_-_}
 use lib.ListN.{length}
 use Rattle.der.proofs.Runs.{run-on}
 use Rattle.repeats.specs.Tree.{cells}
-use Rattle.repeats.proofs.plant.Statement.{statement}
-use Rattle.repeats.proofs.plant.Tie as tie
+use Rattle.repeats.proofs.insert_run.Statement.{statement}
+use Rattle.repeats.proofs.insert_run.Tie as tie
 
 abbrev Inv-loop : tie.InvT-loop
 Inv-loop tree₀ s at stop by n k₀ i₀ tree k i = length tree ≡ cells
@@ -27,8 +27,8 @@ returns c = search needs
 element-at-requires : tie.Need-element-at-requires Inv-loop μ-loop
 element-at-requires c κs = search needs
 
-insert-requires : tie.Need-insert-requires Inv-loop μ-loop
-insert-requires c κs = search needs
+insert-member-requires : tie.Need-insert-member-requires Inv-loop μ-loop
+insert-member-requires c κs = search needs
 
 same-length-2 : tie.Need-same-length-2 Inv-loop μ-loop
 same-length-2 c = search needs
@@ -54,8 +54,8 @@ same-length-3 c = search needs
 returns-3 : tie.Need-returns-3 Inv-loop μ-loop
 returns-3 c = search needs
 
-pub plant-spec : {M : Type 1} → statement M
-plant-spec =
+pub insert-run-spec : {M : Type 1} → statement M
+insert-run-spec =
     tie.close
     (tie.spec
     Inv-loop
@@ -64,7 +64,7 @@ plant-spec =
     same-length
     returns
     element-at-requires
-    insert-requires
+    insert-member-requires
     same-length-2
     returns-2
     add-k
