@@ -67,7 +67,7 @@ fn wide(x: u8) -> usize
 }
 
 // The length octets of the element at a place, all of them in one loop: the first is the length or says how many stand behind it, each of those is a digit
-// of the length. The loop stops before a length that passes the window's end could wrap.
+// of the length. The loop stops before a length that passes the window's end could wrap. (With a flag for the first turn the compiler can tell it from the others.)
 fn length_at(s: &[u8], at: usize, stop: usize) -> Length
     requires { ⌜ (at + 2 ≤ stop) × (stop ≤ length (now s)) ⌝ }
     ensures { λ r. ⌜ r ≡ lengthIn (now (s .entry)) at stop ⌝ }
@@ -75,9 +75,10 @@ fn length_at(s: &[u8], at: usize, stop: usize) -> Length
     let mut start = at + 2;
     let mut n = 0;
     let mut i = at + 1;
+    let mut first = true;
     while i < start {
         let x = wide(s[i]);
-        if i == at + 1 {
+        if first {
             if x < 128 {
                 n = x;
             } else {
@@ -93,6 +94,7 @@ fn length_at(s: &[u8], at: usize, stop: usize) -> Length
             n = n * 256 + x;
         }
         i += 1;
+        first = false;
     }
     if stop - start < n {
         return Length::Beyond;
