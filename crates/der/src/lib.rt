@@ -263,11 +263,11 @@ fn hold(at: usize, ok: bool) -> Fit
     Fit::Breaks(at)
 }
 
-// In a SET: the member e stands in order behind the one before it.
-fn is_sorted(s: &[u8], outer: Element, former: Element, e: Element) -> bool
-    ensures { λ r. ⌜ r ≡ sortedIn outer (now (s .entry)) former e ⌝ }
+// In an element with this tag, a SET or not: the member e stands in order behind the one before it.
+fn is_sorted(s: &[u8], tag: u8, former: Element, e: Element) -> bool
+    ensures { λ r. ⌜ r ≡ sortedIn tag (now (s .entry)) former e ⌝ }
 {
-    if outer.tag != 49 {
+    if tag != 49 {
         return true;
     }
     octets::in_order(whole(s, former), whole(s, e))
@@ -277,42 +277,41 @@ fn is_sorted(s: &[u8], outer: Element, former: Element, e: Element) -> bool
 pub fn check_element(s: &[u8], e: Element, depth: usize) -> Fit
     ensures { λ r. ⌜ r ≡ der depth (now (s .entry)) e ⌝ }
 {
-    if depth == 0 {
-        return Fit::Breaks(e.at);
-    }
     if !e.good {
         return Fit::Breaks(e.at);
     }
-    if is_constructed(e.tag) {
-        return check_run(s, e, depth - 1);
+    if depth == 0 {
+        return Fit::Breaks(e.at);
     }
-    hold(e.at, contents_ok(e.tag, contents(s, e)))
+    if !is_constructed(e.tag) {
+        return hold(e.at, contents_ok(e.tag, contents(s, e)));
+    }
+    check_run(s, e.tag, e.start, e.stop, depth - 1)
 }
 
-// As check_element, of a good element in a run, with no recursive call where it is primitive: every second one is.
+// As check_element, of a good element in a run. (check_element does not call it, so that a run and its members become one recursive function of the compiler's.)
 fn check_member(s: &[u8], e: Element, depth: usize) -> Fit
     requires { ⌜ e .good ≡ true ⌝ }
     ensures { λ r. ⌜ r ≡ der depth (now (s .entry)) e ⌝ }
 {
-    if is_constructed(e.tag) {
-        return check_element(s, e, depth);
-    }
     if depth == 0 {
         return Fit::Breaks(e.at);
+    }
+    if is_constructed(e.tag) {
+        return check_run(s, e.tag, e.start, e.stop, depth - 1);
     }
     hold(e.at, contents_ok(e.tag, contents(s, e)))
 }
 
-// The run of elements inside a constructed one fills it; each has this depth left for it, and in a SET stands in order. Before the first stands none,
-// and that is in order.
-pub fn check_run(s: &[u8], outer: Element, depth: usize) -> Fit
+// The run of elements from start up to stop, inside an element with this tag, fills it; each has this depth left for it, and in a SET stands in order. Before
+// the first stands none, and that is in order.
+pub fn check_run(s: &[u8], tag: u8, start: usize, stop: usize, depth: usize) -> Fit
     ensures { λ r.
         ⌜ r ≡ each
-        (λ former e. andThen (der depth (now (s .entry)) e) (held (e .at) (sortedIn outer (now (s .entry)) former e)))
-        (inside (now (s .entry)) outer) ⌝ }
+        (λ former e. andThen (der depth (now (s .entry)) e) (held (e .at) (sortedIn tag (now (s .entry)) former e)))
+        (elements (now (s .entry)) start stop) ⌝ }
 {
-    let stop = outer.stop;
-    let mut at = outer.start;
+    let mut at = start;
     let mut former = no_element(at);
     while at < stop {
         let e = element_at(s, at, stop);
@@ -322,7 +321,7 @@ pub fn check_run(s: &[u8], outer: Element, depth: usize) -> Fit
         if let Fit::Breaks(o) = check_member(s, e, depth) {
             return Fit::Breaks(o);
         }
-        if !is_sorted(s, outer, former, e) {
+        if !is_sorted(s, tag, former, e) {
             return Fit::Breaks(e.at);
         }
         at = e.stop;
