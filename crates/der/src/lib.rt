@@ -198,19 +198,19 @@ fn is_padding(o: &[u8], i: usize) -> bool
     o[i - 1] < 128
 }
 
-// OID: not empty, each arc shortest; an arc's last octet is below 80.
+// OID: not empty, each arc shortest; an arc's last octet is below 80. From the last octet to the first.
 pub fn is_oid(o: &[u8]) -> bool
     ensures { λ r. ⌜ r ≡ oidOk (now (o .entry)) ⌝ }
 {
     if o.len() == 0 {
         return false;
     }
-    let mut i = 0;
-    while i < o.len() {
+    let mut i = o.len();
+    while 0 < i {
+        i -= 1;
         if is_padding(o, i) {
             return false;
         }
-        i += 1;
     }
     o[o.len() - 1] < 128
 }
