@@ -19,28 +19,28 @@ use Rattle.der.specs.Contents.{contentsOk}
 use Rattle.der.specs.Check.{sortedIn, der, spans}
 use Rattle.der.proofs.Bools.{on-true, on-false}
 
--- the judge of a run: the member m of `outer`, with d levels left for it
-abbrev pub memberFit : ℕ → List ℕ → Element → Element → Element → Fit
-memberFit d s outer former m = andThen (der d s m) (held (m .at) (sortedIn outer s former m))
+-- the judge of a run: the member m of an element with this tag, with d levels left for it
+abbrev pub memberFit : ℕ → List ℕ → ℕ → Element → Element → Fit
+memberFit d s tag former m = andThen (der d s m) (held (m .at) (sortedIn tag s former m))
 
-module _ (outer : Element) (s : List ℕ) (former e : Element) where
-  pub sorted-other : (outer .tag ≡ 49 → ⊥) → sortedIn outer s former e ≡ true
+module _ (tag : ℕ) (s : List ℕ) (former e : Element) where
+  pub sorted-other : (tag ≡ 49 → ⊥) → sortedIn tag s former e ≡ true
   unfolding sortedIn
-  sorted-other n = on-false (eqb (outer .tag) 49) (ordered (whole s former) (whole s e)) true (ne-eqb _ _ n)
+  sorted-other n = on-false (eqb tag 49) (ordered (whole s former) (whole s e)) true (ne-eqb _ _ n)
 
-  pub sorted-set : outer .tag ≡ 49 → sortedIn outer s former e ≡ ordered (whole s former) (whole s e)
+  pub sorted-set : tag ≡ 49 → sortedIn tag s former e ≡ ordered (whole s former) (whole s e)
   unfolding sortedIn
-  sorted-set h = on-true (eqb (outer .tag) 49) (ordered (whole s former) (whole s e)) true (eq-eqb _ _ h)
+  sorted-set h = on-true (eqb tag 49) (ordered (whole s former) (whole s e)) true (eq-eqb _ _ h)
 
 -- the first member of a run has itself before it, and might as well have nothing: both are in order
-module _ (outer : Element) (s : List ℕ) (at : ℕ) where
-  sorted-first : (e : Element) → sortedIn outer s (absent at) e ≡ sortedIn outer s e e
+module _ (tag : ℕ) (s : List ℕ) (at : ℕ) where
+  sorted-first : (e : Element) → sortedIn tag s (absent at) e ≡ sortedIn tag s e e
   unfolding sortedIn ordered
   sorted-first e =
       let n : at ≤ at = omega arith in
-      by-test (eqb (outer .tag) 49) (λ t. rw (t, sortedIn, part-none s at at n, ordered-refl (whole s e))) (λ t. rw (t, sortedIn))
+      by-test (eqb tag 49) (λ t. rw (t, sortedIn, part-none s at at n, ordered-refl (whole s e))) (λ t. rw (t, sortedIn))
 
-  pub each-first : (d : ℕ) (es : List Element) → eachFrom (memberFit d s outer) (absent at) es ≡ each (memberFit d s outer) es
+  pub each-first : (d : ℕ) (es : List Element) → eachFrom (memberFit d s tag) (absent at) es ≡ each (memberFit d s tag) es
   unfolding each eachFrom
   each-first d [] = refl
   each-first d (e ∷ es) = rw (sorted-first e)
@@ -48,7 +48,7 @@ module _ (outer : Element) (s : List ℕ) (at : ℕ) where
 module _ (s : List ℕ) (e : Element) where
   opened : ℕ → Fit
   opened d =
-      elim (constructed (e .tag)) [ true ↦ each (memberFit d s e) (inside s e) | false ↦ held (e .at) (contentsOk (e .tag) (contents s e)) ]
+      elim (constructed (e .tag)) [ true ↦ each (memberFit d s (e .tag)) (inside s e) | false ↦ held (e .at) (contentsOk (e .tag) (contents s e)) ]
 
   pub der-deep : (d : ℕ) → d ≡ 0 → der d s e ≡ Breaks (e .at)
   unfolding der
@@ -59,7 +59,7 @@ module _ (s : List ℕ) (e : Element) where
   der-bad zero g = refl
   der-bad (suc d) g = on-false (e .good) (opened d) (Breaks (e .at)) g
 
-  pub der-run : (d : ℕ) → (d ≡ 0 → ⊥) → e .good ≡ true → constructed (e .tag) ≡ true → der d s e ≡ each (memberFit (d - 1) s e) (inside s e)
+  pub der-run : (d : ℕ) → (d ≡ 0 → ⊥) → e .good ≡ true → constructed (e .tag) ≡ true → der d s e ≡ each (memberFit (d - 1) s (e .tag)) (inside s e)
   unfolding der opened
   der-run zero n g k = absurd (n refl)
   der-run (suc d) n g k =
@@ -68,7 +68,7 @@ module _ (s : List ℕ) (e : Element) where
       (on-true (e .good) (opened d) (Breaks (e .at)) g
       ∙ on-true
       (constructed (e .tag))
-      (each (memberFit d s e) (inside s e))
+      (each (memberFit d s (e .tag)) (inside s e))
       (held (e .at) (contentsOk (e .tag) (contents s e)))
       k)
 
@@ -80,7 +80,7 @@ module _ (s : List ℕ) (e : Element) where
       on-true (e .good) (opened d) (Breaks (e .at)) g
       ∙ on-false
       (constructed (e .tag))
-      (each (memberFit d s e) (inside s e))
+      (each (memberFit d s (e .tag)) (inside s e))
       (held (e .at) (contentsOk (e .tag) (contents s e)))
       k
 

@@ -2,7 +2,7 @@
 use Prim.Native.Nat.{ℕ, suc, _+_, _-_, _*_, _/_, _%_, _≤_, _<_}
 use native.Mathlib.Numerals.{add-one}
 use native.Mathlib.Omega.{arith}
-use mathlib.Core.Bool.{true, false, not, and-eq-true-iff, true≢false}
+use mathlib.Core.Bool.{Bool, true, false, not, and-eq-true-iff, true≢false, false≢true}
 use mathlib.Core.List.{List}
 use mathlib.Core.Path.{_≡_, refl, sym, ap, _∙_}
 use lib.ListN.{length}
@@ -91,29 +91,29 @@ part-turn s i e n l h =
     rw (q, drop-cons s i 0 m, add-one)
 
 -- the length octets read up to i: none yet, or the first and some behind it
-pub record ReadTo (s : List ℕ) (at stop start n i : ℕ) : Type 0 where
+pub record ReadTo (s : List ℕ) (at stop start n i : ℕ) (first : Bool) : Type 0 where
   pub from : at + 1 ≤ i
   pub upto : i ≤ start
   pub begins : at + 2 ≤ start
   pub ends : start ≤ stop
-  pub none : i ≡ at + 1 → (start ≡ at + 2) × (n ≡ 0)
-  pub some : at + 1 < i → (start ≡ contentsAt s at) × (numberFrom n (part s i start) ≡ lengthAt s at)
+  pub none : first ≡ true → (i ≡ at + 1) × ((start ≡ at + 2) × (n ≡ 0))
+  pub some : first ≡ false → (at + 1 < i) × ((start ≡ contentsAt s at) × (numberFrom n (part s i start) ≡ lengthAt s at))
 
 module _ (s : List ℕ) (at stop : ℕ) where
-  pub read-none : at + 2 ≤ stop → ReadTo s at stop (at + 2) 0 (at + 1)
+  pub read-none : at + 2 ≤ stop → ReadTo s at stop (at + 2) 0 (at + 1) true
   read-none l =
       record {
         from = omega arith;
         upto = omega arith;
         begins = omega arith;
         ends = l;
-        none = λ e. (refl, refl);
-        some = λ m. absurd (omega arith);
+        none = λ e. (refl, (refl, refl));
+        some = λ m. absurd (true≢false m);
       }
 
   -- the first octet is the length, or says where the contents begin
   pub read-first : {start n i : ℕ} → i ≡ at + 1 → (octet s i < 128 → n ≡ octet s i) → (128 ≤ octet s i → n ≡ 0)
-      → start ≡ at + 2 + lengthOctetsBehind (octet s i) → start ≤ stop → ReadTo s at stop start n (i + 1)
+      → start ≡ at + 2 + lengthOctetsBehind (octet s i) → start ≤ stop → ReadTo s at stop start n (i + 1) false
   read-first {start} {n} {i} f short long e l =
       let p : i + 1 ≡ at + 2 = omega arith in
       let b : start ≡ contentsAt s at = rw f at e in
@@ -122,31 +122,29 @@ module _ (s : List ℕ) (at stop : ℕ) where
         upto = omega arith;
         begins = omega arith;
         ends = l;
-        none = λ m. absurd (omega arith);
-        some = λ m. (b, rw (b, p) (length-from s at n (rw f at short) (rw f at long)));
+        none = λ m. absurd (false≢true m);
+        some = λ m. (omega arith, (b, rw (b, p) (length-from s at n (rw f at short) (rw f at long))));
       }
 
-  module _ (inside : stop ≤ length s) {start n i : ℕ} (r : ReadTo s at stop start n i) where
-    pub read-digit : (i ≡ at + 1 → ⊥) → i < start → ReadTo s at stop start (n * 256 + octet s i) (i + 1)
+  module _ (inside : stop ≤ length s) {start n i : ℕ} {first : Bool} (r : ReadTo s at stop start n i first) where
+    pub read-digit : first ≡ false → i < start → ReadTo s at stop start (n * 256 + octet s i) (i + 1) false
     read-digit f l =
-        let m : at + 1 < i = omega arith in
         record {
           from = omega arith;
           upto = omega arith;
           begins = r .begins;
           ends = r .ends;
-          none = λ e. absurd (omega arith);
-          some = λ k. (r .some m .0, sym (part-turn s i start n l (omega arith)) ∙ r .some m .1);
+          none = λ e. absurd (false≢true e);
+          some = λ k. (omega (arith, r .from), (r .some f .1 .0, sym (part-turn s i start n l (omega arith)) ∙ r .some f .1 .1));
         }
 
     -- a digit more, and the length would pass the window's end
-    pub read-beyond : (i ≡ at + 1 → ⊥) → i < start → (stop - start) / 256 < n → stop < contentsAt s at + lengthAt s at
+    pub read-beyond : first ≡ false → i < start → (stop - start) / 256 < n → stop < contentsAt s at + lengthAt s at
     read-beyond f l w =
-        let m : at + 1 < i = omega arith in
         omega (
           arith,
-          r .some m .0,
-          r .some m .1,
+          r .some f .1 .0,
+          r .some f .1 .1,
           part-turn s i start n l (omega arith),
           number-grows (n * 256 + octet s i) (part s (i + 1) start),
         )
@@ -154,8 +152,9 @@ module _ (s : List ℕ) (at stop : ℕ) where
     pub read-all : start ≤ i → (start ≡ contentsAt s at) × (n ≡ lengthAt s at)
     unfolding numberFrom
     read-all l =
-        let m : at + 1 < i = omega arith in
-        (r .some m .0, sym (ap (numberFrom n) (part-none s i start l)) ∙ r .some m .1)
+        by-test first
+        (λ f. absurd (omega (arith, r .none f .0, r .begins)))
+        (λ f. (r .some f .1 .0, sym (ap (numberFrom n) (part-none s i start l)) ∙ r .some f .1 .1))
 
 -- what the length octets say in a window
 

@@ -1,10 +1,10 @@
 -- The rules of contents, by the octets that the code looks at.
-use Prim.Native.Nat.{ℕ, _+_, _-_, _≤_, _<_}
+use Prim.Native.Nat.{ℕ, zero, suc, _+_, _-_, _≤_, _<_}
 use native.Mathlib.Numerals.{add-one}
 use native.Mathlib.Omega.{arith}
 use mathlib.Core.Bool.{Bool, true, false, not, _&&_}
 use mathlib.Core.List.{List, [], _∷_}
-use mathlib.Core.Path.{_≡_, refl, _∙_}
+use mathlib.Core.Path.{_≡_, refl, ap, _∙_}
 use lib.ListN.{length, drop, drop-of-length-le}
 use lib.Seq.{drop-cons}
 use lib.Dec.{ltb, leb, eqb}
@@ -111,6 +111,15 @@ module _ (o : List ℕ) (i : ℕ) where
       let p : i + 1 - 1 ≡ i = omega arith in
       let b : arcBegins o (i + 1) ≡ ltb (octet o i) 128 = rw (ne-eqb (i + 1) 0 z, p) in
       rw (b, add-one, drop-cons o i 0 l, e)
+
+-- what breaks the rule from a place on breaks it in the whole
+pub arcs-broken : (o : List ℕ) → (length o ≡ 0 → ⊥) → (i : ℕ) → i ≤ length o → arcsOk (arcBegins o i) (drop i o) ≡ false → oidOk o ≡ false
+arcs-broken o n zero l w = oid-arcs o n ∙ w
+arcs-broken o n (suc i) l w =
+    let q : i + 1 ≡ suc i = omega arith in
+    by-test (arcBegins o i && eqb (octet o i) 128)
+    (λ p. arcs-broken o n i (omega arith) (arcs-padded o i (omega arith) p))
+    (λ p. arcs-broken o n i (omega arith) (arcs-turn o i (omega arith) p ∙ ap (λ (k : ℕ). arcsOk (arcBegins o k) (drop k o)) q ∙ w))
 
 -- the rule of a tag
 

@@ -11,9 +11,9 @@ use Rattle.der.specs.Element.{elementAt, inside, whole, contents, constr
 use Rattle.der.specs.Fit.{andThen, held, each}
 use Rattle.der.specs.Contents.{contentsOk}
 
--- 01, DER: "SET OF sorted"; "Status 1 sorts only sets with the universal tag": a member of the element `outer` stands in order behind the one before it
-unfoldable pub sortedIn : Element → List ℕ → Element → Element → Bool
-sortedIn outer s former e = elim (eqb (outer .tag) 49) [ true ↦ ordered (whole s former) (whole s e) | false ↦ true ]
+-- 01, DER: "SET OF sorted"; "Status 1 sorts only sets with the universal tag": a member of an element with this tag stands in order behind the one before it
+unfoldable pub sortedIn : ℕ → List ℕ → Element → Element → Bool
+sortedIn tag s former e = elim (eqb tag 49) [ true ↦ ordered (whole s former) (whole s e) | false ↦ true ]
 
 -- An element, and all in it, with d levels left for it ("to depth 16; depth 17 is a decode failure"). A constructed value holds a run of elements that fills it; each member
 -- is read whole, then compared with the one before it (02, E3).
@@ -24,7 +24,7 @@ der (suc d) s e =
       | false ↦ Breaks (e .at)
       | true ↦
           elim (constructed (e .tag)) [
-            | true ↦ each (λ former m. andThen (der d s m) (held (m .at) (sortedIn e s former m))) (inside s e)
+            | true ↦ each (λ former m. andThen (der d s m) (held (m .at) (sortedIn (e .tag) s former m))) (inside s e)
             | false ↦ held (e .at) (contentsOk (e .tag) (contents s e))
           ]
     ]

@@ -69,7 +69,7 @@ fn wide(x: u8) -> usize
 }
 
 // The length octets of the element at a place, all of them in one loop: the first is the length or says how many stand behind it, each of those is a digit
-// of the length. The loop stops before a length that passes the window's end could wrap.
+// of the length. The loop stops before a length that passes the window's end could wrap. (With a flag for the first turn the compiler can tell it from the others.)
 fn length_at(s: &[u8], at: usize, stop: usize) -> Length
     requires { ⌜ (at + 2 ≤ stop) × (stop ≤ length (now s)) ⌝ }
     ensures { λ r. ⌜ r ≡ lengthIn (now (s .entry)) at stop ⌝ }
@@ -77,9 +77,10 @@ fn length_at(s: &[u8], at: usize, stop: usize) -> Length
     let mut start = at + 2;
     let mut n = 0;
     let mut i = at + 1;
+    let mut first = true;
     while i < start {
         let x = wide(s[i]);
-        if i == at + 1 {
+        if first {
             if x < 128 {
                 n = x;
             } else {
@@ -95,6 +96,7 @@ fn length_at(s: &[u8], at: usize, stop: usize) -> Length
             n = n * 256 + x;
         }
         i += 1;
+        first = false;
     }
     if stop - start < n {
         return Length::Beyond;
@@ -208,19 +210,19 @@ fn is_padding(o: &[u8], i: usize) -> bool
     o[i - 1] < 128
 }
 
-// OID: not empty, each arc shortest; an arc's last octet is below 80.
+// OID: not empty, each arc shortest; an arc's last octet is below 80. From the last octet to the first.
 pub fn is_oid(o: &[u8]) -> bool
     ensures { λ r. ⌜ r ≡ oidOk (now (o .entry)) ⌝ }
 {
     if o.len() == 0 {
         return false;
     }
-    let mut i = 0;
-    while i < o.len() {
+    let mut i = o.len();
+    while 0 < i {
+        i -= 1;
         if is_padding(o, i) {
             return false;
         }
-        i += 1;
     }
     o[o.len() - 1] < 128
 }
@@ -273,11 +275,11 @@ fn hold(at: usize, ok: bool) -> Fit
     Fit::Breaks(at)
 }
 
-// In a SET: the member e stands in order behind the one before it.
-fn is_sorted(s: &[u8], outer: Element, former: Element, e: Element) -> bool
-    ensures { λ r. ⌜ r ≡ sortedIn outer (now (s .entry)) former e ⌝ }
+// In an element with this tag, a SET or not: the member e stands in order behind the one before it.
+fn is_sorted(s: &[u8], tag: u8, former: Element, e: Element) -> bool
+    ensures { λ r. ⌜ r ≡ sortedIn tag (now (s .entry)) former e ⌝ }
 {
-    if outer.tag != 49 {
+    if tag != 49 {
         return true;
     }
     octets::in_order(whole(s, former), whole(s, e))
@@ -287,42 +289,41 @@ fn is_sorted(s: &[u8], outer: Element, former: Element, e: Element) -> bool
 pub fn check_element(s: &[u8], e: Element, depth: usize) -> Fit
     ensures { λ r. ⌜ r ≡ der depth (now (s .entry)) e ⌝ }
 {
-    if depth == 0 {
-        return Fit::Breaks(e.at);
-    }
     if !e.good {
         return Fit::Breaks(e.at);
     }
-    if is_constructed(e.tag) {
-        return check_run(s, e, depth - 1);
+    if depth == 0 {
+        return Fit::Breaks(e.at);
     }
-    hold(e.at, contents_ok(e.tag, contents(s, e)))
+    if !is_constructed(e.tag) {
+        return hold(e.at, contents_ok(e.tag, contents(s, e)));
+    }
+    check_run(s, e.tag, e.start, e.stop, depth - 1)
 }
 
-// As check_element, of a good element in a run, with no recursive call where it is primitive: every second one is.
+// As check_element, of a good element in a run. (check_element does not call it, so that a run and its members become one recursive function of the compiler's.)
 fn check_member(s: &[u8], e: Element, depth: usize) -> Fit
     requires { ⌜ e .good ≡ true ⌝ }
     ensures { λ r. ⌜ r ≡ der depth (now (s .entry)) e ⌝ }
 {
-    if is_constructed(e.tag) {
-        return check_element(s, e, depth);
-    }
     if depth == 0 {
         return Fit::Breaks(e.at);
+    }
+    if is_constructed(e.tag) {
+        return check_run(s, e.tag, e.start, e.stop, depth - 1);
     }
     hold(e.at, contents_ok(e.tag, contents(s, e)))
 }
 
-// The run of elements inside a constructed one fills it; each has this depth left for it, and in a SET stands in order. Before the first stands none,
-// and that is in order.
-pub fn check_run(s: &[u8], outer: Element, depth: usize) -> Fit
+// The run of elements from start up to stop, inside an element with this tag, fills it; each has this depth left for it, and in a SET stands in order. Before
+// the first stands none, and that is in order.
+pub fn check_run(s: &[u8], tag: u8, start: usize, stop: usize, depth: usize) -> Fit
     ensures { λ r.
         ⌜ r ≡ each
-        (λ former e. andThen (der depth (now (s .entry)) e) (held (e .at) (sortedIn outer (now (s .entry)) former e)))
-        (inside (now (s .entry)) outer) ⌝ }
+        (λ former e. andThen (der depth (now (s .entry)) e) (held (e .at) (sortedIn tag (now (s .entry)) former e)))
+        (elements (now (s .entry)) start stop) ⌝ }
 {
-    let stop = outer.stop;
-    let mut at = outer.start;
+    let mut at = start;
     let mut former = no_element(at);
     while at < stop {
         let e = element_at(s, at, stop);
@@ -332,7 +333,7 @@ pub fn check_run(s: &[u8], outer: Element, depth: usize) -> Fit
         if let Fit::Breaks(o) = check_member(s, e, depth) {
             return Fit::Breaks(o);
         }
-        if !is_sorted(s, outer, former, e) {
+        if !is_sorted(s, tag, former, e) {
             return Fit::Breaks(e.at);
         }
         at = e.stop;

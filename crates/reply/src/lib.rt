@@ -1,7 +1,7 @@
 // The replies of 01: TAMP content in terse form, unsigned (RFC 5934). Built by one writer that keeps the lent reply buffer and its place in it.
 ghost use mathlib.Core.Path.{_≡_};
 ghost use mathlib.Core.List.{List, map};
-ghost use Prim.Native.Nat.{_+_, _*_, _^_, _≤_, _<_};
+ghost use Prim.Native.Nat.{ℕ, _+_, _*_, _^_, _≤_, _<_};
 ghost use lib.ListN.{length, drop};
 ghost use Rattle.octets.specs.Octets.{placed};
 ghost use Rattle.octets.specs.declared.Status.{Status};
@@ -305,19 +305,19 @@ fn communities_size(image: &[u8]) -> usize
 }
 
 // Of the terse response, in its tag.
-fn terse_size(image: &[u8]) -> usize
-    requires { ⌜ terseSize (now image) < 2 ^ 63 ⌝ }
-    ensures { λ r. ⌜ r ≡ terseSize (now (image .entry)) ⌝ }
+pub fn terse_size(image: &[u8]) -> usize
+    requires { ⌜ length (now image) < 2 ^ 32 ⌝ }
+    ensures { λ r. ⌜ (r ≡ terseSize (now (image .entry))) × (r < 2 ^ 62) ⌝ }
 {
     identifiers_size(image) + communities_size(image)
 }
 
-// Of a status response of the store with this image.
-pub fn response_size(msgref: &[u8], image: &[u8]) -> usize
-    requires { ⌜ (length (now msgref) ≤ maxMessage) × (length (now image) < 2 ^ 32) ⌝ }
-    ensures { λ r. ⌜ r ≡ length (responseOf (now (msgref .entry)) (now (image .entry))) ⌝ }
+// Of a status response with a terse response of m octets.
+pub fn response_size(msgref: &[u8], m: usize) -> usize
+    requires { ⌜ (length (now msgref) ≤ maxMessage) × (m < 2 ^ 62) ⌝ }
+    ensures { λ r. ⌜ ((image : List ℕ) → m ≡ terseSize image → r ≡ length (responseOf (now (msgref .entry)) image)) ⌝ }
 {
-    element_size(contents_size(msgref.len(), terse_size(image), 0))
+    element_size(contents_size(msgref.len(), m, 0))
 }
 
 // A reply, part by part, each in its place: n octets of contents; what stands first in them; the header of m octets, and behind it octets, status codes, what an
@@ -411,13 +411,17 @@ pub fn put_adjust_confirm(buf: &mut [u8], msgref: &[u8]) -> usize
     put_reply(buf, n, msgref, 0x0A, 1, &code, none, none, none)
 }
 
-// TAMPStatusResponse, of the store with this image
-pub fn put_status_response<'a, 'b>(buf: &'a mut [u8], msgref: &'b [u8], image: &'b [u8]) -> usize
-    requires { ⌜ length (responseOf (now msgref) (now image)) ≤ length (now buf) ⌝ }
+// TAMPStatusResponse, of the store with this image, whose terse response has m octets
+pub fn put_status_response<'a, 'b>(
+    buf: &'a mut [u8],
+    msgref: &'b [u8],
+    m: usize,
+    image: &'b [u8],
+) -> usize
+    requires { ⌜ (m ≡ terseSize (now image)) × (length (responseOf (now msgref) (now image)) ≤ length (now buf)) ⌝ }
     ensures { λ r. ⌜ (r ≡ length (responseOf (now (msgref .entry)) (now (image .entry))))
         × (now (buf .exit) ≡ placed (now (buf .entry)) 0 (responseOf (now (msgref .entry)) (now (image .entry)))) ⌝ }
 {
-    let m = terse_size(image);
     let n = contents_size(msgref.len(), m, 0);
     let none = &msgref[..0];
     put_reply(buf, n, msgref, 0xA0, m, none, none, image, none)

@@ -20,7 +20,7 @@ use Rattle.syntax.proofs.Each.{on, off, Every, every-member, each-weake
 
 -- the judge of the members of an element
 abbrev pub memberJudge : ℕ → List ℕ → Element → Element → Element → Fit
-memberJudge d s e former m = andThen (der d s m) (held (m .at) (sortedIn e s former m))
+memberJudge d s e former m = andThen (der d s m) (held (m .at) (sortedIn (e .tag) s former m))
 
 -- what one level is, by the tag
 module _ (d : ℕ) (s : List ℕ) (e : Element) where
@@ -45,7 +45,7 @@ der-good (suc d) s e h = by-test (e .good) (λ g. g) (λ g. absurd (breaks≢fit
 pub inside-der : (d : ℕ) (s : List ℕ) (e : Element) → der (suc d) s e ≡ Fits → constructed (e .tag) ≡ true → Every (λ m. der d s m ≡ Fits) (inside s e)
 inside-der d s e h c =
     every-member (memberJudge d s e) (λ m. der d s m ≡ Fits)
-    (λ former m g f. then-both (der d s m) (held (m .at) (sortedIn e s former m)) f .0)
+    (λ former m g f. then-both (der d s m) (held (m .at) (sortedIn (e .tag) s former m)) f .0)
     (inside s e)
     (sym (der-constructed d s e (der-good (suc d) s e h) c) ∙ h)
 
@@ -65,8 +65,8 @@ deeper (suc d) s e h =
     der-constructed (suc d) s e g c
     ∙ each-weaker (memberJudge d s e) (memberJudge (suc d) s e)
     (λ former m f.
-    let two = then-both (der d s m) (held (m .at) (sortedIn e s former m)) f in
-    then-fits (held (m .at) (sortedIn e s former m)) (deeper d s m (two .0)) ∙ two .1)
+    let two = then-both (der d s m) (held (m .at) (sortedIn (e .tag) s former m)) f in
+    then-fits (held (m .at) (sortedIn (e .tag) s former m)) (deeper d s m (two .0)) ∙ two .1)
     (inside s e)
     (sym (der-constructed d s e g c) ∙ h))
     (λ c. der-primitive (suc d) s e g c ∙ sym (der-primitive d s e g c) ∙ h)

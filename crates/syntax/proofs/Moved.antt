@@ -180,7 +180,7 @@ module _ (s : List ℕ) (a b : ℕ) (ab : a ≤ b) (bs : b ≤ length s) where
   contents-moved : (e : Element) → Here e → contents s (moved a e) ≡ contents (part s a b) e
   contents-moved e h = sym (part-here (e .start) (e .stop) (a + e .start) (a + e .stop) refl refl h)
 
-  sorted-moved : (e former m : Element) → Here former → Here m → sortedIn (moved a e) s (moved a former) (moved a m) ≡ sortedIn e (part s a b) former m
+  sorted-moved : (e former m : Element) → Here former → Here m → sortedIn (e .tag) s (moved a former) (moved a m) ≡ sortedIn (e .tag) (part s a b) former m
   unfolding sortedIn
   sorted-moved e former m h k =
       ap₂ (λ (x y : List ℕ). elim (eqb (e .tag) 49) as (λ _. Bool) [ true ↦ ordered x y | false ↦ true ]) (whole-moved former h) (whole-moved m k)
@@ -198,12 +198,12 @@ module _ (s : List ℕ) (a b : ℕ) (ab : a ≤ b) (bs : b ≤ length s) where
       ∙ ap (λ (l : List Element). kept (each (memberJudge d s (moved a e)) l)) (elements-moved (e .start) (e .stop) h)
       ∙ each-alike (moved a) (memberJudge d s (moved a e)) (memberJudge d t e) Here (λ _. refl)
       (λ former m k l.
-      kept-then (der d s (moved a m)) (held (a + m .at) (sortedIn (moved a e) s (moved a former) (moved a m)))
+      kept-then (der d s (moved a m)) (held (a + m .at) (sortedIn (e .tag) s (moved a former) (moved a m)))
       ∙ ap₂ _&&_ (der-moved d m l)
-      (kept-held (a + m .at) (sortedIn (moved a e) s (moved a former) (moved a m))
+      (kept-held (a + m .at) (sortedIn (e .tag) s (moved a former) (moved a m))
       ∙ sorted-moved e former m k l
-      ∙ sym (kept-held (m .at) (sortedIn e t former m)))
-      ∙ sym (kept-then (der d t m) (held (m .at) (sortedIn e t former m))))
+      ∙ sym (kept-held (m .at) (sortedIn (e .tag) t former m)))
+      ∙ sym (kept-then (der d t m) (held (m .at) (sortedIn (e .tag) t former m))))
       (inside t e)
       (all-here (e .start) (e .stop) h)
       ∙ ap kept (sym (der-constructed d t e g c)))

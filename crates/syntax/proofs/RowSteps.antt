@@ -1,7 +1,7 @@
 -- A row's kind by number, one way through the matcher's tests at a time; and the loop of `many`.
 use Prim.Native.Nat.{ℕ, _-_, _≤_, _<_}
 use native.Mathlib.Omega.{arith}
-use mathlib.Core.Bool.{true, false, and-eq-true-iff, true≢false, false≢true}
+use mathlib.Core.Bool.{true, false, _&&_, and-eq-true-iff, true≢false, false≢true}
 use mathlib.Core.List.{List, [], _∷_}
 use mathlib.Core.Path.{_≡_, refl, sym, ap, _∙_}
 use lib.Dec.{ltb, leb, eqb}
@@ -14,14 +14,14 @@ use Rattle.der.specs.declared.Fit.the-variants.{Fits, Breaks}
 use Rattle.der.specs.Element.{elementAt, elements}
 use Rattle.der.specs.Fit.{andThen, held, eachFrom, each}
 use Rattle.der.proofs.Elements.{good-within}
-use Rattle.der.proofs.Fits.{then-breaks, held-fits, held-breaks, each-start, each-end, each-broken, each-breaks, each-turn}
+use Rattle.der.proofs.Fits.{then-fits, then-breaks, held-fits, held-breaks, each-start, each-end, each-broken, each-breaks, each-turn}
 use Rattle.syntax.specs.Grammar.{obeyed, Syntax, end, optional, many, required, fit}
 use Rattle.syntax.specs.declared.Field.{Field}
 use Rattle.syntax.specs.declared.Field.the-variants as field
 use Rattle.syntax.specs.Rows.{argumentOf, bodyOf, nextOf, ruleOf, rowSyntax, grammarOf, isField, thenBehind, leftOut, byContents}
 use Rattle.syntax.proofs.Match.{optional-end, optional-broken, optional-other, optional-here, one-end, one-broken, one-turn, any-end, any-broken, any-turn}
 use Rattle.syntax.proofs.Window.{again}
-use Rattle.syntax.proofs.Rows.{Row, stands}
+use Rattle.syntax.proofs.Rows.{Row, stands, first-fits, second-ends}
 
 then-nothing : (f : Fit) → andThen f Fits ≡ f
 unfolding andThen
@@ -106,6 +106,9 @@ pub record Met (s : List ℕ) (at stop : ℕ) (e : Element) : Type 0 where
   pub room : at < stop
   pub good : e .good ≡ true
 
+pub met-own : {s : List ℕ} {e : Element} → e ≡ elementAt s (e .at) (e .stop) → e .good ≡ true → Met s (e .at) (e .stop) e
+met-own {s} {e} q g = let w = good-within s (e .at) (e .stop) q g in record { is = q; room = omega arith; good = g }
+
 -- the answer for a row, by its kind
 module _ {table : List ℕ} {row kind : ℕ} (r : Row table row kind) (o s : List ℕ) (at stop outer : ℕ) where
   abbrev tag : ℕ
@@ -146,6 +149,37 @@ module _ {table : List ℕ} {row kind : ℕ} (r : Row table row kind) (o s : Lis
       → answer ≡ andThen (fit (grammarOf o b) s at stop outer) (held outer (obeyed (ruleOf (kind - 7) n o) (part s at stop)))
   unfolding rowSyntax fit
   row-rule h k l = by-kind kind refl ∙ rw (le-ltb kind 7 l, rowSyntax, h, k)
+
+  -- a rule alone: its body is free
+  pub rule-alone : {b n : ℕ} {x : Fit} → b ≡ bodyOf table row → n ≡ argumentOf table row → leb 7 kind && eqb b 0 ≡ true
+      → x ≡ held outer (obeyed (ruleOf (kind - 7) n o) (part s at stop)) → answer ≡ x
+  rule-alone {b} h k t v =
+      let two = and-eq-true-iff (leb 7 kind) (eqb b 0) .0 t in
+      row-rule h k (leb-true 7 kind (two .0)) ∙ then-fits _ (first-fits o b (eqb-true b 0 (two .1)) s at stop outer) ∙ sym v
+
+  -- an optional field, and then the end
+  module _ {e : Element} (m : Met s at stop e) {n : ℕ} (v : n ≡ nextOf table row) (t : eqb kind 2 && eqb n 1 ≡ true) where
+    lone : answer ≡ fit (optional tag body end) s at stop outer
+    unfolding rowSyntax
+    lone =
+        let two = and-eq-true-iff (eqb kind 2) (eqb n 1) .0 t in
+        by-kind 2 (eqb-true kind 2 (two .0))
+        ∙ ap (λ (g : Syntax). fit (optional tag body g) s at stop outer) (second-ends o (nextOf table row) (sym v ∙ eqb-true n 1 (two .1)))
+
+    pub lone-other : (e .tag ≡ tag → ⊥) → answer ≡ Breaks at
+    lone-other h =
+        lone
+        ∙ optional-other s at stop outer (m .is) tag body end (m .room) (m .good) (ne-eqb (e .tag) tag h)
+        ∙ end-breaks s at stop outer (m .room)
+
+    pub lone-here : {b : ℕ} {x : Fit} → b ≡ bodyOf table row → x ≡ fit (grammarOf o b) s (e .start) (e .stop) at → e .tag ≡ tag → stop ≤ e .stop
+        → answer ≡ x
+    lone-here p q h l =
+        rw (q, p)
+        (lone
+        ∙ optional-here s at stop outer (m .is) tag body end (m .room) (m .good) (eq-eqb (e .tag) tag h)
+        ∙ ap (andThen (fit body s (e .start) (e .stop) at)) (end-holds s (e .stop) stop outer l)
+        ∙ then-nothing (fit body s (e .start) (e .stop) at))
 
   -- a row of a field: the answer is that from the field on
   module _ (f : isField kind ≡ true) where

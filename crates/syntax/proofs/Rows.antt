@@ -8,7 +8,7 @@ use lib.Dec.{leb, eqb}
 use borrow.Author.Tests.{leb-true, eqb-true, eqb-false}
 use Rattle.octets.proofs.Lists.{by-test}
 use Rattle.der.specs.declared.Fit.the-variants.{Fits}
-use Rattle.syntax.specs.Grammar.{free, fit}
+use Rattle.syntax.specs.Grammar.{free, end, fit}
 use Rattle.syntax.specs.Table.{count, rows}
 use Rattle.syntax.specs.Rows.{kindOf, argumentOf, bodyOf, nextOf, rowSyntax, grown, grammarOf}
 
@@ -110,3 +110,8 @@ stands {row = row} r o = rw (r .kind-is, r .table-is) (row-is o row (r .inside))
 pub first-fits : (o : List ℕ) (row : ℕ) → row ≡ 0 → (s : List ℕ) (at stop outer : ℕ) → fit (grammarOf o row) s at stop outer ≡ Fits
 unfolding grown fit
 first-fits o row z s at stop outer = ap (λ (r : ℕ). fit (grammarOf o r) s at stop outer) z
+
+-- the second is the end
+pub second-ends : (o : List ℕ) (row : ℕ) → row ≡ 1 → grammarOf o row ≡ end
+unfolding rows rowSyntax grown
+second-ends o row z = ap (grammarOf o) z

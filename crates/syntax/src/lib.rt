@@ -1,9 +1,11 @@
 // The ASN.1 of RFC 5652, 5934, 5914, 5280 and 6010 as data, and matching against it.
 ghost use mathlib.Core.Path.{_≡_};
-ghost use mathlib.Core.Bool.{true, false};
+ghost use mathlib.Core.Bool.{true, false, _&&_};
 ghost use mathlib.Core.List.{[], _∷_};
 ghost use Prim.Native.Nat.{_<_};
 ghost use Rattle.octets.specs.Octets.{same, part as partOf};
+ghost use lib.Dec.{leb, eqb};
+ghost use Rattle.der.specs.Element.{elementAt};
 ghost use Rattle.der.specs.Fit.{held};
 ghost use Rattle.syntax.specs.Grammar.{obeyed, many, fit};
 ghost use Rattle.syntax.specs.Types.{recognised};
@@ -11,6 +13,7 @@ ghost use Rattle.syntax.specs.TypeTable.{typeTable, typeAt};
 ghost use Rattle.syntax.specs.Forms.{formSyntax, attributeSyntax};
 ghost use Rattle.syntax.specs.Table.{count, rows, messageRow, formRow, attributeRow};
 ghost use Rattle.syntax.specs.Rows.{column as columnOf, kindOf, nextOf, ruleOf, grammarOf, isField, thenBehind, leftOut, byContents};
+use der::Element;
 use der::Fit;
 
 mod table;
@@ -83,8 +86,10 @@ const INTEGER_BUT: usize = 5;
 
 const SEQ_NUMBER: usize = 6;
 
-// The first row is free.
+// The first row is free, the second the end.
 const FREE_ROW: usize = 0;
+
+const END_ROW: usize = 1;
 
 // RFC 5652: the attribute types id-contentType and id-messageDigest, 1.2.840.113549.1.9.3 and .4; id-signedData, 1.2.840.113549.1.7.2.
 pub const ID_CONTENT_TYPE: [u8; 9] = [0x2A, 0x86, 0x48, 0x86, 0xF7, 0x0D, 0x01, 0x09, 0x03];
@@ -253,7 +258,27 @@ fn by_contents(contents: Fit, stop: usize) -> Field
     Field::Behind(stop)
 }
 
-// As fit_row, with no call where the row is free: most bodies are.
+// A row of a rule alone, over a body that is free.
+fn is_leaf(kind: usize, body: usize) -> bool
+    ensures { λ r. ⌜ r ≡ leb 7 kind && eqb body 0 ⌝ }
+{
+    if kind < RULES {
+        return false;
+    }
+    body == FREE_ROW
+}
+
+// A row of an optional field, and then the end.
+fn is_lone(kind: usize, next: usize) -> bool
+    ensures { λ r. ⌜ r ≡ eqb kind 2 && eqb next 1 ⌝ }
+{
+    if kind != OPTIONAL {
+        return false;
+    }
+    next == END_ROW
+}
+
+// As fit_row, with no recursive call where the row is free, or a rule alone: most bodies are.
 fn fit_body(
     table: &table::Table,
     given: &[u8],
@@ -268,6 +293,11 @@ fn fit_body(
 {
     if row == FREE_ROW {
         return Fit::Fits;
+    }
+    let kind = column(table, row, 0);
+    if is_leaf(kind, column(table, row, 2)) {
+        let n = column(table, row, 1);
+        return check_rule(kind - RULES, n, given, s, at, stop, outer);
     }
     fit_row(table, given, row, s, at, stop, outer)
 }
@@ -378,6 +408,28 @@ fn fit_row(
     fit_rest(table, given, r, s, i, stop, outer)
 }
 
+// Whether the element e, by itself, is as the row says, with no recursive call for a row of one field: most members of a run have one.
+fn fit_member(
+    table: &table::Table,
+    given: &[u8],
+    row: usize,
+    s: &[u8],
+    e: Element,
+    outer: usize,
+) -> Fit
+    requires { ⌜ (now table ≡ rows) × ((row < count) × ((e ≡ elementAt (now s) (e .at) (e .stop)) × (e .good ≡ true))) ⌝ }
+    ensures { λ r. ⌜ r ≡ fit (grammarOf (now (given .entry)) row) (now (s .entry)) (e .at) (e .stop) outer ⌝ }
+{
+    if !is_lone(column(table, row, 0), column(table, row, 3)) {
+        return fit_row(table, given, row, s, e.at, e.stop, outer);
+    }
+    if column(table, row, 1) != wide(e.tag) {
+        return Fit::Breaks(e.at);
+    }
+    let body = column(table, row, 2);
+    fit_body(table, given, body, s, e.start, e.stop, e.at)
+}
+
 // Whether each element of the window, by itself, is as the row says.
 fn fit_each(
     table: &table::Table,
@@ -397,7 +449,7 @@ fn fit_each(
         if !e.good {
             return Fit::Breaks(e.at);
         }
-        if let Fit::Breaks(o) = fit_row(table, given, row, s, e.at, e.stop, outer) {
+        if let Fit::Breaks(o) = fit_member(table, given, row, s, e, outer) {
             return Fit::Breaks(o);
         }
         i = e.stop;

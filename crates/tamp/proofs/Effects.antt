@@ -19,6 +19,8 @@ use Rattle.syntax.specs.declared.TampType.the-variants.{StatusQuery, Update, Co
 use Rattle.rights.specs.Rights.{Rights}
 use Rattle.store.specs.Store.{Anchor, Store, anchors, identifierOf, identifiers}
 use Rattle.store.specs.Image.{encode, decode}
+use Rattle.store.specs.Records.{recordsOf}
+use Rattle.store.specs.Parts.{identifierIn, communitiesOf}
 use Rattle.store.proofs.RoundTrip.{decode-encode, encode-decode, decode-wellFormed}
 use Rattle.store.proofs.Sizes.{encode-length}
 use Rattle.envelope.specs.declared.Refusal.{Refusal}
@@ -42,7 +44,7 @@ use Rattle.tamp.specs.declared.Answer.{Answer}
 use Rattle.tamp.specs.Left.{Left, leaves, refusal, answer, AnswersTo}
 use Rattle.tamp.specs.Given.{Signed, numberedBy, Renumbers}
 use Rattle.tamp.proofs.Answers.{too-long, written, as-status}
-use Rattle.tamp.proofs.Parts.{response-of}
+use Rattle.tamp.proofs.Parts.{listed-of}
 use Rattle.tamp.proofs.Signers.{signed-inside, written-holds}
 
 -- an effect's answer, and the effect of an accepted message by its type
@@ -73,27 +75,28 @@ numberSet-identifiers i n [] = refl
 numberSet-identifiers zero n (a ∷ l) = refl
 numberSet-identifiers (suc i) n (a ∷ l) = ap (λ (r : List (List ℕ)). identifierOf a ∷ r) (numberSet-identifiers i n l)
 
--- a response does not depend on numbers
-response-stays : (msgRef : List ℕ) (i n : ℕ) (σ : Store)
-    → statusResponse msgRef (identifiers σ) (σ .communities) ≡ statusResponse msgRef (identifiers (withNumber i n σ)) (withNumber i n σ .communities)
-unfolding withNumber
-response-stays msgRef zero n σ = refl
-response-stays msgRef (suc i) n σ =
-    ap (λ (l : List (List ℕ)). statusResponse msgRef (identifierOf (σ .apex) ∷ l) (σ .communities)) (sym (numberSet-identifiers i n (σ .others)))
+-- what a response lists does not depend on numbers
+module _ {A : Type 0} (f : List (List ℕ) → List (List ℕ) → A) where
+  listed-stays : (i n : ℕ) (σ : Store) → f (identifiers σ) (σ .communities) ≡ f (identifiers (withNumber i n σ)) (withNumber i n σ .communities)
+  unfolding withNumber
+  listed-stays zero n σ = refl
+  listed-stays (suc i) n σ =
+      ap (λ (l : List (List ℕ)). f (identifierOf (σ .apex) ∷ l) (σ .communities)) (sym (numberSet-identifiers i n (σ .others)))
 
-pub response-again : (s : List ℕ) (q : Request) (i : ℕ) (image next m : List ℕ) → Signed s q i image → {l : ℕ} {next′ : List ℕ}
-    → Renumbers s q i image next l next′ → imageRoom ≤ length next → responseOf m (take l next′) ≡ responseOf m image
-response-again s q i image next m g {l} {next′} w room =
-    let σ = g .store in
-    let h = written-holds (w σ (g .decodes)) room in
-    let d : decode (take l next′) ≡ some (numberedBy s q i σ) = ap decode (h .image) ∙ decode-encode (numberedBy s q i σ) (h .good) in
-    response-of m (take l next′) (numberedBy s q i σ) d ∙ sym (response-of m image σ (g .decodes) ∙ response-stays m i (seqNumIn s (q .msgref)) σ)
+  pub listed-again : (s : List ℕ) (q : Request) (i : ℕ) (image next : List ℕ) → Signed s q i image → {l : ℕ} {next′ : List ℕ}
+      → Renumbers s q i image next l next′ → imageRoom ≤ length next
+      → f (map identifierIn (recordsOf (take l next′))) (communitiesOf (take l next′)) ≡ f (map identifierIn (recordsOf image)) (communitiesOf image)
+  listed-again s q i image next g {l} {next′} w room =
+      let σ = g .store in
+      let h = written-holds (w σ (g .decodes)) room in
+      let d : decode (take l next′) ≡ some (numberedBy s q i σ) = ap decode (h .image) ∙ decode-encode (numberedBy s q i σ) (h .good) in
+      listed-of f (take l next′) (numberedBy s q i σ) d ∙ sym (listed-of f image σ (g .decodes) ∙ listed-stays i (seqNumIn s (q .msgref)) σ)
 
 module _ (s : List ℕ) (q : Request) (i : ℕ) (image : List ℕ) {m : List ℕ} (e : m ≡ whole s (q .msgref)) where
   pub query-moves : q .kind ≡ StatusQuery → Moves s q i image (responseOf m image)
   unfolding effectOf queryEffect
   query-moves k σ d =
-      let said = ap (λ (m : List ℕ). responseOf m image) e ∙ response-of (whole s (q .msgref)) image σ d ∙ response-stays (whole s (q .msgref)) i (seqNumIn s (q .msgref)) σ in
+      let said = ap (λ (m : List ℕ). responseOf m image) e ∙ listed-of (statusResponse (whole s (q .msgref))) image σ d ∙ listed-stays (statusResponse (whole s (q .msgref))) i (seqNumIn s (q .msgref)) σ in
       effect-is s q i σ k ∙ ap (λ (said : List ℕ). record { status = success; reply = said; store = numberedBy s q i σ }) (sym said)
 
   pub adjust-moves : q .kind ≡ SeqNumAdjust → Moves s q i image (adjustConfirm m)

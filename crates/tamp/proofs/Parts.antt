@@ -1,7 +1,7 @@
 -- Parts of a message are no longer than it; and what the call reads of an image.
 use Prim.Native.Nat.{ℕ, _-_, _≤_}
 use native.Mathlib.Omega.{arith}
-use mathlib.Core.List.{List}
+use mathlib.Core.List.{List, map}
 use mathlib.Core.Option.{some}
 use mathlib.Core.Path.{_≡_, ap, ap₂}
 use lib.ListN.{length, length-take, length-drop}
@@ -11,11 +11,11 @@ use Rattle.der.specs.declared.Element.{Element}
 use Rattle.der.specs.Element.{whole, contents}
 use Rattle.store.specs.Store.{Store, identifiers}
 use Rattle.store.specs.Image.{decode}
+use Rattle.store.specs.Records.{recordsOf}
+use Rattle.store.specs.Parts.{identifierIn, communitiesOf}
 use Rattle.store.proofs.RoundTrip.{encode-decode, decode-wellFormed}
 use Rattle.store.proofs.Sizes.{encode-length}
 use Rattle.store.proofs.Parts.{parts, identifiers-of}
-use Rattle.reply.specs.Replies.{statusResponse}
-use Rattle.reply.specs.Parts.{responseOf}
 
 length-part : (s : List ℕ) (a e : ℕ) → length (part s a e) ≤ length s
 length-part s a e = simp (length-take, length-drop) (omega arith)
@@ -30,9 +30,10 @@ contents-short s e = length-part s (e .start) (e .stop)
 pub image-short : (image : List ℕ) (σ : Store) → Octets image → decode image ≡ some σ → length image ≤ imageRoom
 image-short image σ o d = rw (encode-decode image σ o d) at (encode-length σ (decode-wellFormed image σ d))
 
--- a Query's response, as the code reads it from an image
-pub response-of : (msgRef image : List ℕ) (σ : Store) → decode image ≡ some σ → responseOf msgRef image ≡ statusResponse msgRef (identifiers σ) (σ .communities)
-response-of msgRef image σ d = ap₂ (statusResponse msgRef) (identifiers-of image σ d) (parts image σ d .communities)
+-- what a Query's response lists, as the code reads it from an image
+pub listed-of : {A : Type 0} (f : List (List ℕ) → List (List ℕ) → A) (image : List ℕ) (σ : Store) → decode image ≡ some σ
+    → f (map identifierIn (recordsOf image)) (communitiesOf image) ≡ f (identifiers σ) (σ .communities)
+listed-of f image σ d = ap₂ f (identifiers-of image σ d) (parts image σ d .communities)
 
 -- parts of a short message are short
 module _ (s : List ℕ) (e : Element) {m : List ℕ} (short : length s ≤ maxMessage) where

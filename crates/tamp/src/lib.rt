@@ -183,11 +183,12 @@ fn query(s: &[u8], q: Request, i: usize, image: &[u8], reply: &mut [u8], next: &
         (now (next .exit)) ⌝ }
 {
     let msgref = message::msg_ref(s, q);
-    if octets::REPLY_ROOM < reply::response_size(msgref, image) {
+    let m = reply::terse_size(image);
+    if octets::REPLY_ROOM < reply::response_size(msgref, m) {
         return Answer::refusal(Status::LONG_REPLY);
     }
     let k = renumber(s, q, i, image, next);
-    let n = reply::put_status_response(reply, msgref, &next[..k]);
+    let n = reply::put_status_response(reply, msgref, m, &next[..k]);
     Answer::reply(Status::SUCCESS, n, k)
 }
 

@@ -1,46 +1,51 @@
--- `der::is_oid` meets its contract. The loop's invariant: what is left keeps the rule of arcs exactly if the whole does. Assumes nothing.
-use Prim.Native.Nat.{_-_, _≤_}
+-- `der::is_oid` meets its contract. The loop's invariant: the octets from i on keep the rule of arcs exactly if the last of them ends an arc. Assumes nothing.
+use Prim.Native.Nat.{ℕ, _+_, _-_, _≤_}
 use native.Mathlib.Omega.{arith}
 use borrow.Author.Needs.{needs}
-use mathlib.Core.Path.{_≡_, sym, _∙_}
+use mathlib.Core.Path.{_≡_, refl, sym, ap, _∙_}
 use lib.ListN.{length, drop}
-use Rattle.der.specs.Contents.{arcsOk, arcBegins, oidOk}
-use Rattle.der.proofs.Leaves.{oid-none, oid-arcs, arcs-end, arcs-padded, arcs-turn}
+use lib.Dec.{ltb}
+use Rattle.octets.specs.Octets.{octet}
+use Rattle.der.specs.Contents.{arcsOk, arcBegins}
+use Rattle.der.proofs.Leaves.{oid-none, oid-arcs, arcs-end, arcs-padded, arcs-turn, arcs-broken}
 use Rattle.der.proofs.is_oid.Statement.{statement}
 use Rattle.der.proofs.is_oid.Tie as tie
 
 abbrev Inv-loop : tie.InvT-loop
-Inv-loop o i₀ i = (i ≤ length o) × (arcsOk (arcBegins o i) (drop i o) ≡ oidOk o)
+Inv-loop o i₀ i = (i ≤ length o) × (arcsOk (arcBegins o i) (drop i o) ≡ ltb (octet o (length o - 1)) 128)
 
 abbrev μ-loop : tie.MeasureT-loop
-μ-loop o i₀ i = length o - i
+μ-loop o i₀ i = i
 
 returns : tie.Need-returns Inv-loop μ-loop
 returns c = sym (oid-none _ (c .if1 .taken))
 
 loop-holds : tie.Need-loop-holds Inv-loop μ-loop
-loop-holds c = (omega arith, sym (oid-arcs _ (c .if1 .left)))
+loop-holds c = let o = c .before .before .args .o .now in (omega arith, arcs-end o (length o) (c .if1 .left) refl)
+
+sub-i : tie.Need-sub-i Inv-loop μ-loop
+sub-i c = search needs
 
 is-padding-requires : tie.Need-is-padding-requires Inv-loop μ-loop
 is-padding-requires c κs = search needs
 
 returns-2 : tie.Need-returns-2 Inv-loop μ-loop
 returns-2 c =
+    let o = c .before .before .before .before .before .before .args .o .now in
     let l = c .before .before .before .loop in
     let p = sym (c .before .is-padding .ensures) ∙ c .if2 .taken in
-    sym (arcs-padded (c .before .before .before .before .before .before .args .o .now) (l .i) (omega arith) p) ∙ l .inv .1
-
-add-i : tie.Need-add-i Inv-loop μ-loop
-add-i c = search needs
+    sym (arcs-broken o (c .before .before .before .before .if1 .left) (l .i - 1) (omega arith) (arcs-padded o (l .i - 1) (omega arith) p))
 
 loop-less : tie.Need-loop-less Inv-loop μ-loop
 loop-less c = search needs
 
 loop-again : tie.Need-loop-again Inv-loop μ-loop
 loop-again c =
+    let o = c .before .before .before .before .before .before .args .o .now in
     let l = c .before .before .before .loop in
     let p = sym (c .before .is-padding .ensures) ∙ c .if2 .left in
-    (omega arith, sym (arcs-turn (c .before .before .before .before .before .before .args .o .now) (l .i) (omega arith) p) ∙ l .inv .1)
+    let q : l .i - 1 + 1 ≡ l .i = omega arith in
+    (omega arith, arcs-turn o (l .i - 1) (omega arith) p ∙ ap (λ (k : ℕ). arcsOk (arcBegins o k) (drop k o)) q ∙ l .inv .1)
 
 sub-result : tie.Need-sub-result Inv-loop μ-loop
 sub-result c = search needs
@@ -50,8 +55,10 @@ shared-slice-read-result c = search needs
 
 returns-3 : tie.Need-returns-3 Inv-loop μ-loop
 returns-3 c =
+    let o = c .before .before .before .before .before .args .o .now in
     let l = c .before .before .loop in
-    sym (arcs-end (c .before .before .before .before .before .args .o .now) (l .i) (c .before .before .before .if1 .left) (omega arith)) ∙ l .inv .1
+    let z : l .i ≡ 0 = omega arith in
+    sym (oid-arcs o (c .before .before .before .if1 .left) ∙ ap (λ (k : ℕ). arcsOk (arcBegins o k) (drop k o)) (sym z) ∙ l .inv .1)
 
 pub is-oid-spec : {M : Type 1} → statement M
 is-oid-spec =
@@ -61,9 +68,9 @@ is-oid-spec =
     μ-loop
     returns
     loop-holds
+    sub-i
     is-padding-requires
     returns-2
-    add-i
     loop-less
     loop-again
     sub-result

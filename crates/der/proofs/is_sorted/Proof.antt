@@ -8,8 +8,8 @@ use Rattle.der.proofs.is_sorted.Tie as tie
 
 returns : tie.Need-returns
 returns c =
-    let a = c .before .before .before .args in
-    sym (sorted-other (a .outer) (a .s .now) (a .former) (a .e) (c .if1 .taken))
+    let a = c .before .before .args in
+    sym (sorted-other (a .tag) (a .s .now) (a .former) (a .e) (c .if1 .taken))
 
 whole-requires : tie.Need-whole-requires
 whole-requires c κs = search needs
@@ -22,10 +22,10 @@ in-order-requires c κs = search needs
 
 returns-2 : tie.Need-returns-2
 returns-2 c =
-    let a = c .before .before .before .before .before .before .args in
+    let a = c .before .before .before .before .before .args in
     c .in-order .ensures
     ∙ ap₂ ordered (c .before .before .whole .ensures) (c .before .whole2 .ensures)
-    ∙ sym (sorted-set (a .outer) (a .s .now) (a .former) (a .e) (c .before .before .before .if1 .left))
+    ∙ sym (sorted-set (a .tag) (a .s .now) (a .former) (a .e) (c .before .before .before .if1 .left))
 
 pub is-sorted-spec : {M : Type 1} → statement M
 is-sorted-spec =

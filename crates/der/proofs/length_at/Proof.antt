@@ -10,10 +10,10 @@ use Rattle.der.proofs.length_at.Statement.{statement}
 use Rattle.der.proofs.length_at.Tie as tie
 
 abbrev Inv-loop : tie.InvT-loop
-Inv-loop s at stop start₀ n₀ i₀ start n i = ReadTo s at stop start n i
+Inv-loop s at stop start₀ n₀ i₀ first₀ start n i first = ReadTo s at stop start n i first
 
 abbrev μ-loop : tie.MeasureT-loop
-μ-loop s at stop start₀ n₀ i₀ start n i = stop - i
+μ-loop s at stop start₀ n₀ i₀ first₀ start n i first = stop - i
 
 add-start : tie.Need-add-start Inv-loop μ-loop
 add-start c = search needs
@@ -30,9 +30,6 @@ shared-slice-read-wide c = search needs
 wide-requires : tie.Need-wide-requires Inv-loop μ-loop
 wide-requires c κs = search needs
 
-add-if1 : tie.Need-add-if1 Inv-loop μ-loop
-add-if1 c = search needs
-
 sub-if3 : tie.Need-sub-if3 Inv-loop μ-loop
 sub-if3 c = search needs
 
@@ -40,9 +37,9 @@ returns : tie.Need-returns Inv-loop μ-loop
 returns c =
     let b = c .before .before .before .before .before .before .before .before in
     let l = c .before .before .before .before .before .before .loop in
-    let f = c .before .before .if1 .taken in
-    let x = ap (octet (b .args .s .now)) (sym f) ∙ sym (c .before .before .before .wide .ensures) in
-    sym (length-beyond (b .args .s .now) (b .args .at) (b .args .stop) (omega (arith, x, l .inv .none f .0)))
+    let z = l .inv .none (c .before .before .if1 .taken) in
+    let x = ap (octet (b .args .s .now)) (sym (z .0)) ∙ sym (c .before .before .before .wide .ensures) in
+    sym (length-beyond (b .args .s .now) (b .args .at) (b .args .stop) (omega (arith, x, z .1 .0)))
 
 add-start-2 : tie.Need-add-start-2 Inv-loop μ-loop
 add-start-2 c = search needs
@@ -77,19 +74,19 @@ loop-again c =
     (λ w.
     let z = l .inv .none (w .0 .taken) in
     first
-    (w .0 .taken)
+    (z .0)
     (λ k. w .3 ∙ x)
     (λ k. absurd (omega (arith, x, w .1 .taken)))
-    (omega (arith, x, w .1 .taken, w .2, z .0))
+    (omega (arith, x, w .1 .taken, w .2, z .1 .0))
     (omega (arith, w .2)))
     (⊎-elim
     (λ w.
     let z = l .inv .none (w .0 .taken) in
     first
-    (w .0 .taken)
+    (z .0)
     (λ k. absurd (omega (arith, x, w .1 .left)))
-    (λ k. w .4 ∙ z .1)
-    (omega (arith, x, w .1 .left, w .3, z .0))
+    (λ k. w .4 ∙ z .1 .1)
+    (omega (arith, x, w .1 .left, w .3, z .1 .0))
     (omega (arith, w .1 .left, w .2 .left, w .3)))
     (λ w. rw (w .2, w .3, x) (read-digit (b .args .s .now) (b .args .at) (b .args .stop) (b .pre .1) (l .inv) (w .0 .left) (c .before .before .before .loop-test .taken))))
     (c .if1 .came)
@@ -120,7 +117,6 @@ length-at-spec =
     loop-holds
     shared-slice-read-wide
     wide-requires
-    add-if1
     sub-if3
     returns
     add-start-2

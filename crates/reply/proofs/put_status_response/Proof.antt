@@ -7,42 +7,32 @@ use Rattle.reply.proofs.Sizes.{written-whole, response-size, response-p
 use Rattle.reply.proofs.put_status_response.Statement.{statement}
 use Rattle.reply.proofs.put_status_response.Tie as tie
 
-terse-size-requires : tie.Need-terse-size-requires
-terse-size-requires c κs =
-    let a = c .before .before .before .args in
-    omega (arith, response-size (a .msgref .now) (a .image .now))
-
 contents-size-requires : tie.Need-contents-size-requires
 contents-size-requires c κs =
-    let a = c .before .before .before .before .args in
-    omega (arith, c .terse-size .ensures, response-size (a .msgref .now) (a .image .now))
+    let a = c .before .before .before .args in
+    omega (arith, response-size (a .msgref .now) (a .image .now))
 
 slice-aggregate-none : tie.Need-slice-aggregate-none
 slice-aggregate-none c = search needs
 
 put-reply-requires : tie.Need-put-reply-requires
 put-reply-requires c κs =
-    let a = c .before .before .before .before .before .before .before .args in
-    omega (
-      arith,
-      ap length (response-parts (a .msgref .now) (a .image .now) (c .before .before .before .terse-size .ensures)
-          (c .before .before .contents-size .ensures .0)),
-    )
+    let w = c .before .before .before .before .before .before in
+    omega (arith, ap length (response-parts (w .args .msgref .now) (w .args .image .now) (w .pre .0) (c .before .before .contents-size .ensures .0)))
 
 same-length : tie.Need-same-length
 same-length c = search needs
 
 returns : tie.Need-returns
 returns c =
-    let a = c .before .before .before .before .before .before .before .before .before .before .args in
-    written-whole (a .buf .now) (response-parts (a .msgref .now) (a .image .now) (c .before .before .before .before .before .before .terse-size .ensures)
+    let w = c .before .before .before .before .before .before .before .before .before in
+    written-whole (w .args .buf .now) (response-parts (w .args .msgref .now) (w .args .image .now) (w .pre .0)
     (c .before .before .before .before .before .contents-size .ensures .0)) (c .before .before .put-reply .ensures)
 
 pub put-status-response-spec : {M : Type 1} → statement M
 put-status-response-spec =
     tie.close
     (tie.spec
-    terse-size-requires
     contents-size-requires
     slice-aggregate-none
     put-reply-requires

@@ -1,0 +1,13 @@
+-- `syntax::is_leaf` meets its contract. Assumes nothing.
+use borrow.Author.Tests.{le-leb, lt-leb}
+use Rattle.syntax.proofs.is_leaf.Statement.{statement}
+use Rattle.syntax.proofs.is_leaf.Tie as tie
+
+returns : tie.Need-returns
+returns c = rw (lt-leb 7 _ (c .if1 .taken))
+
+returns-2 : tie.Need-returns-2
+returns-2 c = rw (le-leb 7 _ (c .if1 .left))
+
+pub is-leaf-spec : {M : Type 1} → statement M
+is-leaf-spec = tie.close (tie.spec returns returns-2)
