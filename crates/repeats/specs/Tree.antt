@@ -1,7 +1,7 @@
 -- The tree that tells of repeats. It is read as it stands, and nothing is asked of it: whatever its cells hold, it leads from equal keys to one number, so that
 -- members whose keys lead each to its own number have keys that differ.
 use Prim.Native.Nat.{ℕ, zero, suc, _+_, _*_, _/_, _%_}
-use mathlib.Core.Bool.{Bool, true, false}
+use mathlib.Core.Bool.{Bool, true, false, _||_}
 use mathlib.Core.List.{List, [], _∷_}
 use mathlib.Core.Path.{_≡_}
 use lib.ListN.{length, getD}
@@ -32,10 +32,13 @@ digit key place below = extended key place / (below + 1) % 2
 abbrev pub child : List ℕ → List ℕ → ℕ → ℕ
 child tree key node = cell tree (node + 2 + digit key (cell tree node) (cell tree (node + 1)))
 
--- the number of the member that the key leads to from r, in at most n steps: an odd r is a member, an even one a node
+-- the number of the member that the key leads to from r, in at most n steps: an odd r is a member, an even one a node; one that asks behind the key's end
+-- stands for its own member
 unfoldable pub findFrom : ℕ → List ℕ → List ℕ → ℕ → ℕ
 findFrom zero tree key r = r / 2
-findFrom (suc n) tree key r = elim (eqb (r % 2) 1) [ true ↦ r / 2 | false ↦ findFrom n tree key (child tree key (5 * (r / 2))) ]
+findFrom (suc n) tree key r =
+    let node = 5 * (r / 2) in
+    elim (eqb (r % 2) 1 || ltb (length key) (cell tree node)) [ true ↦ r / 2 | false ↦ findFrom n tree key (child tree key node) ]
 
 abbrev pub find : List ℕ → List ℕ → ℕ
 find tree key = findFrom (length tree) tree key 0

@@ -157,7 +157,7 @@ fn digit(k: &[u8], place: usize, below: usize) -> usize
     extended(k, place) / (below + 1) % 2
 }
 
-// The number of the member that the tree leads to.
+// The number of the member that the tree leads to: a node that asks behind the key's end stands for its own member, so that the way is no longer than the key.
 fn find(tree: &[u16], k: &[u8]) -> usize
     ensures { λ r. ⌜ (r ≡ findOf (now (tree .entry)) (now (k .entry))) × (r < 32768) ⌝ }
 {
@@ -168,7 +168,11 @@ fn find(tree: &[u16], k: &[u8]) -> usize
             return r / 2;
         }
         let node = 5 * (r / 2);
-        let d = digit(k, cell(tree, node), cell(tree, node + 1));
+        let place = cell(tree, node);
+        if k.len() < place {
+            return r / 2;
+        }
+        let d = digit(k, place, cell(tree, node + 1));
         r = cell(tree, node + 2 + d);
         left -= 1;
     }
@@ -272,8 +276,8 @@ fn insert_member(tree: &mut [u16], s: &[u8], e: Element, by: Compared, n: usize)
         return false;
     }
     if n == 0 {
-        // the first node asks for an octet that no key has
-        insert_node(tree, 0, at, 1, MAX_CELL, 0, 0);
+        // the first node asks for a digit that no octet has
+        insert_node(tree, 0, at, 1, 0, MAX_CELL, 0);
         return true;
     }
     let k = key(s, e, by);

@@ -1,10 +1,10 @@
-use borrow.Author.Needs.{needs}
 -- `repeats::find` meets its contract: what is left of the way leads where the whole leads. Assumes nothing.
-use mathlib.Core.Path.{_≡_, refl, sym, ap, _∙_}
+use borrow.Author.Needs.{needs}
+use mathlib.Core.Path.{_≡_, refl, sym, _∙_}
 use native.Mathlib.Omega.{arith}
 use Prim.Native.Nat.{_<_}
 use Rattle.repeats.specs.Tree.{findFrom, find}
-use Rattle.repeats.proofs.Steps.{find-end, find-member, find-turn}
+use Rattle.repeats.proofs.Steps.{find-end, find-member, find-past, find-turn}
 use Rattle.repeats.proofs.find.Statement.{statement}
 use Rattle.repeats.proofs.find.Tie as tie
 
@@ -28,6 +28,12 @@ mul-node c = search needs
 
 cell-requires : tie.Need-cell-requires Inv-loop μ-loop
 cell-requires c κs = search needs
+
+returns-2 : tie.Need-returns-2 Inv-loop μ-loop
+returns-2 c =
+    let a = c .before .before .before .before .before .before .before .args in
+    let l = c .before .before .before .before .loop in
+    (sym (find-past (a .tree .now) (a .k .now) (l .left) (l .r) (c .before .before .before .loop-test .taken) (c .before .cell .ensures .0) (c .if2 .taken)) ∙ l .inv .0, omega arith)
 
 add-cell : tie.Need-add-cell Inv-loop μ-loop
 add-cell c = search needs
@@ -55,15 +61,16 @@ loop-less c = search needs
 
 loop-again : tie.Need-loop-again Inv-loop μ-loop
 loop-again c =
-    let a = c .before .before .before .before .before .before .before .before .before .args in
-    let l = c .before .before .before .before .before .before .loop in (
-      find-turn (a .tree .now) (a .k .now) (l .left) (l .r) (c .before .before .before .before .before .loop-test .taken) (c .before .before .before .before .if1 .left) (c .before .before .before .cell .ensures .0) (c .before .before .cell2 .ensures .0) (c .before .digit .ensures .0) (c .cell3 .ensures .0)
+    let a = c .before .before .before .before .before .before .before .before .before .before .args in
+    let l = c .before .before .before .before .before .before .before .loop in
+    let p = c .before .before .before .before .cell .ensures .0 in (
+      find-turn (a .tree .now) (a .k .now) (l .left) (l .r) (c .before .before .before .before .before .before .loop-test .taken) (c .before .before .before .before .before .if1 .left) p (c .before .before .before .if2 .left) (c .before .before .cell2 .ensures .0) (c .before .digit .ensures .0) (c .cell3 .ensures .0)
           ∙ l .inv .0,
       c .cell3 .ensures .1,
     )
 
-returns-2 : tie.Need-returns-2 Inv-loop μ-loop
-returns-2 c =
+returns-3 : tie.Need-returns-3 Inv-loop μ-loop
+returns-3 c =
     let a = c .before .before .before .before .args in
     let l = c .before .loop in
     (sym (find-end (a .tree .now) (a .k .now) (l .left) (l .r) (omega arith)) ∙ l .inv .0, omega arith)
@@ -78,6 +85,7 @@ find-spec =
     returns
     mul-node
     cell-requires
+    returns-2
     add-cell
     cell-requires-2
     digit-requires
@@ -87,4 +95,4 @@ find-spec =
     sub-left
     loop-less
     loop-again
-    returns-2)
+    returns-3)
