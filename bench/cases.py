@@ -1,6 +1,6 @@
 #!/usr/bin/env python3
 """Writes the benchmark's cases below a folder, messages signed by OpenSSL: a Query, an Update with one and with sixteen adds, on stores of 3 and of 32 anchors and of 32 anchors of about 1,000 octets;
-and the messages of nearly 8,192 octets that cost the most: one add with as many content types as fit in (over the limit: 17), a Community Update of as many communities (17)."""
+and the messages that cost the most, of nearly 8,192 octets and of half as many: one add with as many content types as fit in (over the limit: 17), a Community Update of as many communities (17)."""
 import os
 import subprocess
 import sys
@@ -74,8 +74,10 @@ def main():
         for name, message in messages.items():
             write(folder, '%s-%d-anchors' % (name, count), message, image(count))
     write(folder, 'query-32-long-anchors', messages['query'], image(32, [oid(n) for n in range(16)], 780))
-    write(folder, 'wide-add-3-anchors', update([anchor(100, [oid(n) for n in range(950)])]), image(3))
-    write(folder, 'wide-communities-3-anchors', communities(1550), image(3))
+    for count in (475, 950):
+        write(folder, 'add-%d-types-3-anchors' % count, update([anchor(100, [oid(n) for n in range(count)])]), image(3))
+    for count in (775, 1550):
+        write(folder, '%d-communities-3-anchors' % count, communities(count), image(3))
 
 
 main()
