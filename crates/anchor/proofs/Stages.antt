@@ -15,12 +15,14 @@ use Rattle.octets.specs.Lists.{anyOf}
 use Rattle.octets.specs.Octets.{distinct}
 use Rattle.octets.proofs.Lists.{by-test}
 use Rattle.der.specs.declared.Element.{Element}
-use Rattle.der.specs.declared.Fit.{Fit}
 use Rattle.der.specs.Element.{root, contents, inside, field, fieldBehind}
-use Rattle.der.specs.Fit.{andThen, kept}
+use Rattle.der.specs.Fit.{kept}
 use Rattle.der.specs.Check.{spans}
 use Rattle.syntax.specs.Grammar.{Syntax, fit}
 use Rattle.syntax.specs.Asn.{StoredTrustAnchorInfo, CMSContentConstraints}
+use Rattle.syntax.specs.Whole.{conformsIn}
+use Rattle.syntax.proofs.Each.{kept-then}
+use Rattle.syntax.proofs.Whole.{spans-bad, spans-long, spans-run}
 use Rattle.rights.specs.Rights.{Rights}
 use Rattle.rights.specs.Constraints.{constraintsRights}
 use Rattle.anchor.specs.declared.Judged.{Judged}
@@ -82,10 +84,20 @@ module _ (k : List ℕ) where
       rw (le-leb 1 _ n) (sym (not-leb (length k) maxKeyIdentifier))
 
 -- DER and a syntax
-module _ (g : Syntax) (t : List ℕ) {a b : Fit} (p : a ≡ spans maxDepth t 0 (length t) 0) (q : b ≡ fit g t 0 (length t) 0) where
-  pub conforms-is : kept (andThen a b) ≡ conforms g t
+module _ (g : Syntax) (t : List ℕ) {e : Element} (q : e ≡ root t) where
+  by-spans : {b : Bool} → kept (spans maxDepth t 0 (length t) 0) ≡ b → b && kept (fit g t 0 (length t) 0) ≡ conforms g t
   unfolding conforms
-  conforms-is = rw (p, q)
+  by-spans h =
+      ap (λ (b : Bool). b && kept (fit g t 0 (length t) 0)) (sym h) ∙ sym (kept-then (spans maxDepth t 0 (length t) 0) (fit g t 0 (length t) 0))
+
+  pub conforms-bad : e .good ≡ false → false ≡ conforms g t
+  conforms-bad b = by-spans (spans-bad maxDepth t 0 (length t) 0 q b)
+
+  pub conforms-long : e .good ≡ true → (e .stop ≡ length t → ⊥) → false ≡ conforms g t
+  conforms-long b n = by-spans (spans-long maxDepth t 0 (length t) 0 q b n)
+
+  pub conforms-whole : e .good ≡ true → e .stop ≡ length t → conformsIn maxDepth g t 0 (length t) 0 ≡ conforms g t
+  conforms-whole b h = by-spans (spans-run maxDepth t 0 (length t) 0 q b h)
 
 pub storable-is : (t : List ℕ) {a : Bool} {j : Judged} {n : Status} → a ≡ conforms StoredTrustAnchorInfo t → a ≡ true → j ≡ judge t → n ≡ statusOf j
     → eqb (n .number) (success .number) ≡ storable t

@@ -1,7 +1,6 @@
 // Trust anchors: a TrustAnchorInfo (RFC 5914), and what an add must pass (01, After acceptance).
 // Everything takes the octets of a TrustAnchorInfo by itself, a part of an image or of a message.
 use der::Element;
-use der::Fit;
 use repeats::Compared;
 ghost use mathlib.Core.Bool.{not, _&&_};
 ghost use mathlib.Core.Path.{_≡_};
@@ -374,18 +373,19 @@ fn identifier_outside(k: &[u8]) -> bool
     octets::MAX_KEY_IDENTIFIER < k.len()
 }
 
-// Octets by themselves are DER, depth counted from their element, and of a syntax.
+// Octets by themselves are one element, DER, depth counted from it, and of a syntax.
 pub fn conforms(form: syntax::Form, t: &[u8]) -> bool
     ensures { λ r. ⌜ r ≡ conformsOf (formSyntax form) (now (t .entry)) ⌝ }
 {
     let n = t.len();
-    let Fit::Fits = der::spans(t, 0, n, 0, octets::MAX_DEPTH) else {
+    let e = root(t);
+    if !e.good {
         return false;
-    };
-    let Fit::Fits = syntax::fits(form, t, 0, n, 0) else {
+    }
+    if e.stop != n {
         return false;
-    };
-    true
+    }
+    syntax::conforms(form, t, 0, n, octets::MAX_DEPTH)
 }
 
 // 34: bad constraints syntax, of an extension that is present.

@@ -8,6 +8,7 @@ pub mod Moved
 pub mod Rows
 pub mod RowRules
 pub mod RowSteps
+pub mod Whole
 pub mod Ties
 pub mod TypeTable
 pub mod FieldTheorems

@@ -5,3 +5,4 @@ pub mod Forms
 pub mod Table
 pub mod Rows
 pub mod TypeTable
+pub mod Whole

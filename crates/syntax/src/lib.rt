@@ -2,17 +2,19 @@
 ghost use mathlib.Core.Path.{_≡_};
 ghost use mathlib.Core.Bool.{true, false, _&&_};
 ghost use mathlib.Core.List.{[], _∷_};
-ghost use Prim.Native.Nat.{_<_};
+ghost use Prim.Native.Nat.{ℕ, _<_};
 ghost use Rattle.octets.specs.Octets.{same, part as partOf};
 ghost use lib.Dec.{leb, eqb};
 ghost use Rattle.der.specs.Element.{elementAt};
-ghost use Rattle.der.specs.Fit.{held};
+ghost use Rattle.der.specs.Fit.{held, kept};
+ghost use Rattle.der.specs.Check.{der};
 ghost use Rattle.syntax.specs.Grammar.{obeyed, many, fit};
 ghost use Rattle.syntax.specs.Types.{recognised};
 ghost use Rattle.syntax.specs.TypeTable.{typeTable, typeAt};
 ghost use Rattle.syntax.specs.Forms.{formSyntax, attributeSyntax};
 ghost use Rattle.syntax.specs.Table.{count, rows, messageRow, formRow, attributeRow};
 ghost use Rattle.syntax.specs.Rows.{column as columnOf, kindOf, nextOf, ruleOf, grammarOf, isField, thenBehind, leftOut, byContents};
+ghost use Rattle.syntax.specs.Whole.{conformsIn, behindIf, thenConforms, entered};
 use der::Element;
 use der::Fit;
 
@@ -549,4 +551,200 @@ pub fn recognise(o: &[u8]) -> Recognised
     ensures { λ r. ⌜ r ≡ recognised (now (o .entry)) ⌝ }
 {
     find_type(&TYPES, o)
+}
+
+// DER and a form at once. Where a break's place is not asked for, one walk reads each element once for both: a window's elements are DER, each with this depth
+// left for it, and the window is as a row says. What the grammar leaves free, primitive elements and sets are left to the two checks.
+
+fn is_kept(f: Fit) -> bool
+    ensures { λ r. ⌜ r ≡ kept f ⌝ }
+{
+    if let Fit::Breaks(_) = f {
+        return false;
+    }
+    true
+}
+
+// A field up to stop that is as it should be, or not.
+fn behind_if(ok: bool, stop: usize) -> Field
+    ensures { λ r. ⌜ r ≡ behindIf ok stop ⌝ }
+{
+    if ok {
+        return Field::Behind(stop);
+    }
+    Field::Breaks(stop)
+}
+
+// An element that the walk enters: its contents are not free, and are a run that is not sorted, with a level left.
+fn is_entered(body: usize, tag: u8, depth: usize) -> bool
+    ensures { λ r. ⌜ r ≡ entered body tag depth ⌝ }
+{
+    if body == FREE_ROW {
+        return false;
+    }
+    if tag == 49 {
+        return false;
+    }
+    if depth == 0 {
+        return false;
+    }
+    der::is_constructed(tag)
+}
+
+// Any other element, by the two checks.
+fn conform_leaf(
+    table: &table::Table,
+    given: &[u8],
+    row: usize,
+    s: &[u8],
+    e: Element,
+    depth: usize,
+) -> bool
+    requires { ⌜ (now table ≡ rows) × (row < count) ⌝ }
+    ensures { λ r.
+        ⌜ r ≡ kept (der depth (now (s .entry)) e)
+        && kept (fit (grammarOf (now (given .entry)) row) (now (s .entry)) (e .start) (e .stop) (e .at)) ⌝ }
+{
+    if !is_kept(der::check_element(s, e, depth)) {
+        return false;
+    }
+    is_kept(fit_body(table, given, row, s, e.start, e.stop, e.at))
+}
+
+// As fit_field.
+fn conform_field(
+    table: &table::Table,
+    given: &[u8],
+    row: usize,
+    s: &[u8],
+    at: usize,
+    stop: usize,
+    depth: usize,
+) -> Field
+    requires { ⌜ (now table ≡ rows) × ((row < count) × (isField (kindOf (now table) row) ≡ true)) ⌝ }
+    ensures { λ r.
+        ⌜ ((outer : ℕ) →
+        conformsIn depth (grammarOf (now (given .entry)) row) (now (s .entry)) at stop outer
+        ≡ thenConforms r (λ i. conformsIn depth (grammarOf (now (given .entry)) (nextOf (now (table .entry)) row)) (now (s .entry)) i stop outer))
+        ⌝ }
+{
+    let kind = column(table, row, 0);
+    if stop <= at {
+        return left_out(kind, at, at);
+    }
+    let e = der::element_at(s, at, stop);
+    if !e.good {
+        return Field::Breaks(at);
+    }
+    if kind == ANY_OPTIONAL {
+        return behind_if(is_kept(der::check_element(s, e, depth)), e.stop);
+    }
+    let body = column(table, row, 2);
+    if kind == ONE {
+        return behind_if(
+            conform_row(table, given, body, s, at, e.stop, depth),
+            e.stop,
+        );
+    }
+    if column(table, row, 1) != wide(e.tag) {
+        return left_out(kind, at, at);
+    }
+    if is_entered(body, e.tag, depth) {
+        return behind_if(
+            conform_row(table, given, body, s, e.start, e.stop, depth - 1),
+            e.stop,
+        );
+    }
+    behind_if(conform_leaf(table, given, body, s, e, depth), e.stop)
+}
+
+// As fit_rest.
+fn conform_rest(
+    table: &table::Table,
+    given: &[u8],
+    row: usize,
+    s: &[u8],
+    at: usize,
+    stop: usize,
+    depth: usize,
+) -> bool
+    requires { ⌜ (now table ≡ rows) × ((row < count) × (isField (kindOf (now table) row) ≡ false)) ⌝ }
+    ensures { λ r. ⌜ ((outer : ℕ) → r ≡ conformsIn depth (grammarOf (now (given .entry)) row) (now (s .entry)) at stop outer) ⌝ }
+{
+    let kind = column(table, row, 0);
+    if kind == FREE {
+        return is_kept(der::check_run(s, 0, at, stop, depth));
+    }
+    if kind == END {
+        return stop <= at;
+    }
+    let body = column(table, row, 2);
+    if kind == MANY {
+        return conform_each(table, given, body, s, at, stop, depth);
+    }
+    if !conform_row(table, given, body, s, at, stop, depth) {
+        return false;
+    }
+    let n = column(table, row, 1);
+    keeps(kind - RULES, n, given, octets::part(s, at, stop))
+}
+
+// As fit_row.
+fn conform_row(
+    table: &table::Table,
+    given: &[u8],
+    row: usize,
+    s: &[u8],
+    at: usize,
+    stop: usize,
+    depth: usize,
+) -> bool
+    requires { ⌜ (now table ≡ rows) × (row < count) ⌝ }
+    ensures { λ r. ⌜ ((outer : ℕ) → r ≡ conformsIn depth (grammarOf (now (given .entry)) row) (now (s .entry)) at stop outer) ⌝ }
+{
+    let mut r = row;
+    let mut i = at;
+    while is_field(column(table, r, 0)) {
+        let Field::Behind(p) = conform_field(table, given, r, s, i, stop, depth) else {
+            return false;
+        };
+        i = p;
+        r = column(table, r, 3);
+    }
+    conform_rest(table, given, r, s, i, stop, depth)
+}
+
+// As fit_each.
+fn conform_each(
+    table: &table::Table,
+    given: &[u8],
+    row: usize,
+    s: &[u8],
+    at: usize,
+    stop: usize,
+    depth: usize,
+) -> bool
+    requires { ⌜ (now table ≡ rows) × (row < count) ⌝ }
+    ensures { λ r. ⌜ ((outer : ℕ) → r ≡ conformsIn depth (many (grammarOf (now (given .entry)) row)) (now (s .entry)) at stop outer) ⌝ }
+{
+    let mut i = at;
+    while i < stop {
+        let e = der::element_at(s, i, stop);
+        if !e.good {
+            return false;
+        }
+        if !conform_row(table, given, row, s, i, e.stop, depth) {
+            return false;
+        }
+        i = e.stop;
+    }
+    true
+}
+
+// Whether the window is of the form, and its elements DER with this depth.
+pub fn conforms(form: Form, s: &[u8], at: usize, stop: usize, depth: usize) -> bool
+    ensures { λ r. ⌜ ((outer : ℕ) → r ≡ conformsIn depth (formSyntax form) (now (s .entry)) at stop outer) ⌝ }
+{
+    let row = form_row(form);
+    conform_row(&table::ROWS, &ID_SIGNED_DATA, row, s, at, stop, depth)
 }

@@ -1,61 +1,27 @@
 -- `anchor::conforms` meets its contract. Assumes nothing.
 use borrow.Author.Needs.{needs}
-use mathlib.Core.Path.{refl}
-use Rattle.der.specs.Fit.{andThen}
-use Rattle.syntax.specs.Forms.{formSyntax}
-use Rattle.anchor.proofs.Stages.{conforms-is}
+use borrow.Author.Tests.{not-true, not-false}
+use mathlib.Core.Path.{_∙_}
+use Rattle.anchor.proofs.Stages.{conforms-bad, conforms-long, conforms-whole}
 use Rattle.anchor.proofs.conforms.Statement.{statement}
 use Rattle.anchor.proofs.conforms.Tie as tie
 
-spans-requires : tie.Need-spans-requires
-spans-requires c κs = search needs
-
-enum-told : tie.Need-enum-told
-enum-told c = search needs
-
-enum-told-2 : tie.Need-enum-told-2
-enum-told-2 c = search needs
+root-requires : tie.Need-root-requires
+root-requires c κs = search needs
 
 returns : tie.Need-returns
-unfolding andThen
-returns c =
-    let a = c .before .before .before .before .args in
-    let g = formSyntax (a .form) in
-    rw (c .enum-told2 .given .1) at (conforms-is g (a .t .now) (c .before .before .spans .ensures) refl)
-
-fits-requires : tie.Need-fits-requires
-fits-requires c κs = search needs
-
-enum-told-3 : tie.Need-enum-told-3
-enum-told-3 c = search needs
-
-enum-told-4 : tie.Need-enum-told-4
-enum-told-4 c = search needs
+returns c = conforms-bad _ _ (c .before .before .root .ensures) (not-true _ (c .if1 .taken))
 
 returns-2 : tie.Need-returns-2
-unfolding andThen
-returns-2 c =
-    let a = c .before .before .before .before .before .before .before .args in
-    let g = formSyntax (a .form) in
-    rw (c .before .before .before .enum-told .given .1, c .enum-told4 .given .1) at (conforms-is g (a .t .now) (c .before .before .before .before .before .spans .ensures) (c .before .before .fits2 .ensures))
+returns-2 c = conforms-long _ _ (c .before .before .before .before .root .ensures) (not-false _ (c .before .before .if1 .left)) (c .if2 .taken)
+
+conforms-requires : tie.Need-conforms-requires
+conforms-requires c κs = search needs
 
 returns-3 : tie.Need-returns-3
-unfolding andThen
 returns-3 c =
-    let a = c .before .before .before .before .before .before .before .args in
-    let g = formSyntax (a .form) in
-    rw (c .before .before .before .enum-told .given .1, c .enum-told3 .given .1) at (conforms-is g (a .t .now) (c .before .before .before .before .before .spans .ensures) (c .before .before .fits2 .ensures))
+    c .conforms .ensures 0
+    ∙ conforms-whole _ _ (c .before .before .before .before .before .root .ensures) (not-false _ (c .before .before .before .if1 .left)) (c .before .if2 .left)
 
 pub conforms-spec : {M : Type 1} → statement M
-conforms-spec =
-    tie.close
-    (tie.spec
-    spans-requires
-    enum-told
-    enum-told-2
-    returns
-    fits-requires
-    enum-told-3
-    enum-told-4
-    returns-2
-    returns-3)
+conforms-spec = tie.close (tie.spec root-requires returns returns-2 conforms-requires returns-3)
