@@ -1,4 +1,4 @@
 pub mod Keys
 pub mod Numbers
 pub mod Steps
-pub mod Answers
+pub mod Rests

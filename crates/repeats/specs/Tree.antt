@@ -1,6 +1,6 @@
 -- The tree that tells of repeats. It is read as it stands, and nothing is asked of it: whatever its cells hold, it leads from equal keys to one number, so that
 -- members whose keys lead each to its own number have keys that differ.
-use Prim.Native.Nat.{ℕ, zero, suc, _+_, _*_, _/_, _%_}
+use Prim.Native.Nat.{ℕ, zero, suc, _+_, _*_, _/_, _%_, _≤_, _<_}
 use mathlib.Core.Bool.{Bool, true, false, _||_}
 use mathlib.Core.List.{List, [], _∷_}
 use mathlib.Core.Path.{_≡_}
@@ -9,8 +9,10 @@ use lib.Dec.{eqb, ltb}
 use Rattle.octets.specs.Octets.{octet}
 use Rattle.repeats.specs.declared.Numbered.{Numbered}
 use Rattle.repeats.specs.declared.Numbered.the-variants.{All, Not}
+use Rattle.repeats.specs.declared.Rest.{Rest}
+use Rattle.repeats.specs.declared.Rest.the-variants.{From, Repeated}
 use Rattle.repeats.specs.declared.Told.{Told}
-use Rattle.repeats.specs.declared.Told.the-variants.{Distinct, Repeated, Nothing}
+use Rattle.repeats.specs.declared.Told.the-variants as told
 
 -- the size of the tree
 abbrev pub cells : ℕ
@@ -50,12 +52,12 @@ numbered find n (k ∷ keys) = elim (eqb (find k) n) [ true ↦ numbered find (n
 
 -- what is told is so
 abbrev pub tells : Told → Bool → Type 0
-tells Distinct d = d ≡ true
-tells Repeated d = d ≡ false
-tells Nothing d = Unit {0}
+tells told.Distinct d = d ≡ true
+tells told.Repeated d = d ≡ false
+tells told.Nothing d = Unit {0}
 
--- .. and where nothing is told, it is so of what is left
-abbrev pub leaves : Told → Bool → Bool → Type 0
-leaves Distinct d left = d ≡ true
-leaves Repeated d left = d ≡ false
-leaves Nothing d left = d ≡ left
+-- What comparing members from `at` on leaves of a test of the runs up to stop: it fails, or it is the test of the rest. There is a rest only behind as many
+-- members as were to be compared.
+abbrev pub leaves : Rest → (ℕ → Bool) → ℕ → ℕ → ℕ → Type 0
+leaves Repeated test at stop limit = test at ≡ false
+leaves (From i) test at stop limit = (test at ≡ test i) × (i < stop → limit + at ≤ i)

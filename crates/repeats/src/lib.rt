@@ -31,6 +31,12 @@ enum Told {
     Nothing,
 }
 
+// Where the members begin that are not yet compared, or that one recurs.
+enum Rest {
+    From(usize),
+    Repeated,
+}
+
 // What was inserted: the next number, and the place of a candidate for a repeat: a member whose key was there already, or for which there is no room.
 struct Inserted {
     next: usize,
@@ -113,6 +119,9 @@ fn recurs(s: &[u8], e: Element, at: usize, stop: usize, other: Element, by: Comp
     let k = key(s, e, by);
     if occurs(s, at, stop, by, k) {
         return true;
+    }
+    if other.stop <= other.start {
+        return false;
     }
     occurs(s, other.start, other.stop, by, k)
 }
@@ -417,31 +426,50 @@ fn by_tree(s: &[u8], at: usize, stop: usize, other: Element, by: Compared) -> To
     Told::Nothing
 }
 
-// Compares each member of a list with those behind it, in the list and in the other one; where there are many, a tree tells. Nothing is told where no member
-// of the list recurs: then the other list is to be looked at.
-fn compare(s: &[u8], list: Element, other: Element, by: Compared) -> Told
-    ensures { λ r. ⌜ leaves r (distinct (keysIn by (now (s .entry)) list ++ keysIn by (now (s .entry)) other)) (distinct (keysIn by (now (s .entry)) other)) ⌝ }
+// Compares the first members of a run, up to a number of them, each with those behind it in the run and in the other list. Gives where the rest begins.
+fn compare(s: &[u8], at: usize, stop: usize, other: Element, by: Compared, limit: usize) -> Rest
+    ensures { λ r. ⌜ leaves r (λ i. distinct (keysFrom by (now (s .entry)) i stop ++ keysIn by (now (s .entry)) other)) at stop limit ⌝ }
 {
-    let stop = list.stop;
-    let mut i = list.start;
+    let mut i = at;
     let mut n = 0;
     while i < stop {
-        if n == FEW {
-            match by_tree(s, i, stop, other, by) {
-                Told::Distinct => return Told::Distinct,
-                Told::Repeated => return Told::Repeated,
-                Told::Nothing => {}
-            }
+        if n == limit {
+            return Rest::From(i);
         }
         let e = der::element_at(s, i, stop);
         let behind = der::next(e, stop);
         if recurs(s, e, behind, stop, other, by) {
-            return Told::Repeated;
+            return Rest::Repeated;
         }
         n += 1;
         i = behind;
     }
-    Told::Nothing
+    Rest::From(i)
+}
+
+// No two members of the run and the other list have equal keys, by comparing all.
+fn compare_all(s: &[u8], at: usize, stop: usize, other: Element, by: Compared) -> bool
+    ensures { λ r. ⌜ r ≡ distinct (keysFrom by (now (s .entry)) at stop ++ keysIn by (now (s .entry)) other) ⌝ }
+{
+    let Rest::From(_) = compare(s, at, stop, other, by, stop) else {
+        return false;
+    };
+    let none = der::no_element(0);
+    let Rest::From(_) = compare(s, other.start, other.stop, none, by, other.stop) else {
+        return false;
+    };
+    true
+}
+
+// The same where there are many: a tree tells, or else all are compared.
+fn long_distinct(s: &[u8], at: usize, stop: usize, other: Element, by: Compared) -> bool
+    ensures { λ r. ⌜ r ≡ distinct (keysFrom by (now (s .entry)) at stop ++ keysIn by (now (s .entry)) other) ⌝ }
+{
+    match by_tree(s, at, stop, other, by) {
+        Told::Distinct => true,
+        Told::Repeated => false,
+        Told::Nothing => compare_all(s, at, stop, other, by),
+    }
 }
 
 // No two members of the list have equal keys.
@@ -451,22 +479,27 @@ pub fn is_distinct(s: &[u8], list: Element, by: Compared) -> bool
     if list.stop <= list.start {
         return true;
     }
-    match compare(s, list, der::no_element(0), by) {
-        Told::Distinct => true,
-        Told::Repeated => false,
-        Told::Nothing => true,
+    let none = der::no_element(0);
+    let Rest::From(i) = compare(s, list.start, list.stop, none, by, FEW) else {
+        return false;
+    };
+    if list.stop <= i {
+        return true;
     }
+    long_distinct(s, i, list.stop, none, by)
 }
 
 // No two members of the two lists have equal keys.
 pub fn are_distinct(s: &[u8], list: Element, other: Element, by: Compared) -> bool
     ensures { λ r. ⌜ r ≡ distinct (keysIn by (now (s .entry)) list ++ keysIn by (now (s .entry)) other) ⌝ }
 {
-    match compare(s, list, other, by) {
-        Told::Distinct => true,
-        Told::Repeated => false,
-        Told::Nothing => is_distinct(s, other, by),
+    let Rest::From(i) = compare(s, list.start, list.stop, other, by, FEW) else {
+        return false;
+    };
+    if list.stop <= i {
+        return is_distinct(s, other, by);
     }
+    long_distinct(s, i, list.stop, other, by)
 }
 
 // A place up to which no two members of the list have equal keys: the first that repeats one before it, or the end, unless the tree tells nothing.

@@ -5,7 +5,7 @@ use mathlib.Core.Path.{sym, ap, _∙_}
 use Rattle.octets.specs.Octets.{distinct}
 use Rattle.octets.proofs.Lists.{distinct-none}
 use Rattle.repeats.proofs.Keys.{keys-end, none-behind}
-use Rattle.repeats.proofs.Answers.{left-distinct, left-repeated, left-nothing}
+use Rattle.repeats.proofs.Rests.{left-repeated, left-from, left-other}
 use Rattle.repeats.proofs.is_distinct.Statement.{statement}
 use Rattle.repeats.proofs.is_distinct.Tie as tie
 
@@ -18,30 +18,34 @@ no-element-requires c κs = search needs
 compare-requires : tie.Need-compare-requires
 compare-requires c κs = search needs
 
+enum-known-i : tie.Need-enum-known-i
+enum-known-i c = search needs
+
 enum-told : tie.Need-enum-told
 enum-told c = search needs
-
-enum-told-2 : tie.Need-enum-told-2
-enum-told-2 c = search needs
-
-enum-told-3 : tie.Need-enum-told-3
-enum-told-3 c = search needs
 
 returns-2 : tie.Need-returns-2
 returns-2 c =
     let a = c .before .before .before .before .before .before .before .args in
-    sym (left-distinct _ (c .before .before .compare .ensures) (c .enum-told .given .1)) ∙ ap distinct (none-behind (a .by) (a .s .now) (c .before .before .before .no-element .ensures) _)
+    let n = none-behind (a .by) (a .s .now) (c .before .before .before .no-element .ensures) in
+    sym (ap distinct (sym (n _)) ∙ left-repeated (a .by) (a .s .now) (c .before .before .before .no-element .result) (a .list .start) (a .list .stop) 8 (c .before .before .compare .ensures) (c .enum-told .given .1))
 
 returns-3 : tie.Need-returns-3
 returns-3 c =
-    let a = c .before .before .before .before .before .before .before .args in
-    sym (left-repeated _ (c .before .before .compare .ensures) (c .enum-told2 .given .1)) ∙ ap distinct (none-behind (a .by) (a .s .now) (c .before .before .before .no-element .ensures) _)
+    let a = c .before .before .before .before .before .before .before .before .before .before .args in
+    let n = none-behind (a .by) (a .s .now) (c .before .before .before .before .before .before .no-element .ensures) in
+    let w = left-other (a .by) (a .s .now) (c .before .before .before .before .before .before .no-element .result) (a .list .start) (a .list .stop) 8 (c .before .before .before .before .before .compare .ensures) (c .before .before .before .i .given .1) (c .if2 .taken) in
+    sym (ap distinct (sym (n _)) ∙ w ∙ ap distinct (n []) ∙ distinct-none)
+
+long-distinct-requires : tie.Need-long-distinct-requires
+long-distinct-requires c κs = search needs
 
 returns-4 : tie.Need-returns-4
 returns-4 c =
-    let a = c .before .before .before .before .before .before .before .args in
-    let n = none-behind (a .by) (a .s .now) (c .before .before .before .no-element .ensures) in
-    sym (left-nothing _ (c .before .before .compare .ensures) (c .enum-told3 .given .1) ∙ ap distinct (n []) ∙ distinct-none) ∙ ap distinct (n _)
+    let a = c .before .before .before .before .before .before .before .before .before .before .before .args in
+    let n = none-behind (a .by) (a .s .now) (c .before .before .before .before .before .before .before .no-element .ensures) in
+    let w = left-from (a .by) (a .s .now) (c .before .before .before .before .before .before .before .no-element .result) (a .list .start) (a .list .stop) 8 (c .before .before .before .before .before .before .compare .ensures) (c .before .before .before .before .i .given .1) .0 in
+    c .long-distinct .ensures ∙ sym (ap distinct (sym (n _)) ∙ w)
 
 pub is-distinct-spec : {M : Type 1} → statement M
 is-distinct-spec =
@@ -50,9 +54,9 @@ is-distinct-spec =
     returns
     no-element-requires
     compare-requires
+    enum-known-i
     enum-told
-    enum-told-2
-    enum-told-3
     returns-2
     returns-3
+    long-distinct-requires
     returns-4)
