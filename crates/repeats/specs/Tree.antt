@@ -53,7 +53,7 @@ numbered find n (k ∷ keys) = elim (eqb (find k) n) [ true ↦ numbered find (n
 -- what is told is so
 abbrev pub tells : Told → Bool → Type 0
 tells told.Distinct d = d ≡ true
-tells told.Repeated d = d ≡ false
+tells (told.Repeated place) d = d ≡ false
 tells told.Nothing d = Unit {0}
 
 -- What comparing members from `at` on leaves of a test of the runs up to stop: it fails, or it is the test of the rest. There is a rest only behind as many

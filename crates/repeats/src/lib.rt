@@ -24,10 +24,10 @@ enum Numbered {
     Not,
 }
 
-// What the tree tells of a list.
+// What a tree tells of a list. A member that repeats one before it has a place.
 enum Told {
     Distinct,
-    Repeated,
+    Repeated(usize),
     Nothing,
 }
 
@@ -318,7 +318,7 @@ fn insert_run(
     n: usize,
 ) -> Inserted
     requires { ⌜ length (now tree) ≡ cells ⌝ }
-    ensures { λ r. ⌜ (length (now (tree .exit)) ≡ cells) × (r .candidate ≤ stop) ⌝ }
+    ensures { λ r. ⌜ length (now (tree .exit)) ≡ cells ⌝ }
 {
     let mut k = n;
     let mut i = at;
@@ -421,7 +421,7 @@ fn by_tree(s: &[u8], at: usize, stop: usize, other: Element, by: Compared) -> To
         return Told::Distinct;
     }
     if is_repeated(s, candidate, at, stop, other, by) {
-        return Told::Repeated;
+        return Told::Repeated(candidate);
     }
     Told::Nothing
 }
@@ -467,7 +467,7 @@ fn long_distinct(s: &[u8], at: usize, stop: usize, other: Element, by: Compared)
 {
     match by_tree(s, at, stop, other, by) {
         Told::Distinct => true,
-        Told::Repeated => false,
+        Told::Repeated(_) => false,
         Told::Nothing => compare_all(s, at, stop, other, by),
     }
 }
@@ -502,15 +502,28 @@ pub fn are_distinct(s: &[u8], list: Element, other: Element, by: Compared) -> bo
     long_distinct(s, i, list.stop, other, by)
 }
 
-// A place up to which no two members of the list have equal keys: the first that repeats one before it, or the end, unless the tree tells nothing.
+// The place, if it stands in the list and no two members before it have equal keys, else the beginning.
+fn distinct_before(s: &[u8], list: Element, place: usize, by: Compared) -> usize
+    ensures { λ r. ⌜ (distinct (keysFrom by (now (s .entry)) (list .start) r) ≡ true) × (list .start < r → r ≤ list .stop) ⌝ }
+{
+    if list.stop < place {
+        return list.start;
+    }
+    let none = der::no_element(0);
+    if let Told::Distinct = by_tree(s, list.start, place, none, by) {
+        return place;
+    }
+    list.start
+}
+
+// A place up to which no two members of the list have equal keys: the end, or the first that repeats one before it, unless the tree tells nothing.
 pub fn distinct_until(s: &[u8], list: Element, by: Compared) -> usize
     ensures { λ r. ⌜ (distinct (keysFrom by (now (s .entry)) (list .start) r) ≡ true) × (list .start < r → r ≤ list .stop) ⌝ }
 {
-    let mut tree = [0u16; CELLS];
-    let inserted = insert_run(&mut tree, s, list.start, list.stop, by, 0);
-    let candidate = inserted.candidate;
-    if are_numbered(&tree, s, list.start, candidate, der::no_element(0), by) {
-        return candidate;
+    let none = der::no_element(0);
+    match by_tree(s, list.start, list.stop, none, by) {
+        Told::Distinct => list.stop,
+        Told::Repeated(place) => distinct_before(s, list, place, by),
+        Told::Nothing => list.start,
     }
-    list.start
 }
