@@ -43,8 +43,8 @@ struct Inserted {
     candidate: usize,
 }
 
-// So many members are compared before a tree is made.
-const FEW: usize = 8;
+// So many members are compared before a tree is made: as many entries, or communities, as a store may hold.
+const FEW: usize = 16;
 
 // Members that the tree has room for: as many as a message has room for, at two octets each.
 const MEMBERS: usize = 4096;

@@ -17,7 +17,7 @@ enum-told c = search needs
 returns : tie.Need-returns
 returns c =
     let a = c .before .before .before .before .args in
-    sym (left-repeated (a .by) (a .s .now) (a .other) (a .list .start) (a .list .stop) 8 (c .before .before .compare .ensures) (c .enum-told .given .1))
+    sym (left-repeated (a .by) (a .s .now) (a .other) (a .list .start) (a .list .stop) 16 (c .before .before .compare .ensures) (c .enum-told .given .1))
 
 is-distinct-requires : tie.Need-is-distinct-requires
 is-distinct-requires c κs = search needs
@@ -25,7 +25,7 @@ is-distinct-requires c κs = search needs
 returns-2 : tie.Need-returns-2
 returns-2 c =
     let a = c .before .before .before .before .before .before .before .before .args in
-    c .is-distinct .ensures ∙ sym (left-other (a .by) (a .s .now) (a .other) (a .list .start) (a .list .stop) 8 (c .before .before .before .before .before .before .compare .ensures) (c .before .before .before .before .i .given .1) (c .before .if1 .taken))
+    c .is-distinct .ensures ∙ sym (left-other (a .by) (a .s .now) (a .other) (a .list .start) (a .list .stop) 16 (c .before .before .before .before .before .before .compare .ensures) (c .before .before .before .before .i .given .1) (c .before .if1 .taken))
 
 long-distinct-requires : tie.Need-long-distinct-requires
 long-distinct-requires c κs = search needs
@@ -33,7 +33,7 @@ long-distinct-requires c κs = search needs
 returns-3 : tie.Need-returns-3
 returns-3 c =
     let a = c .before .before .before .before .before .before .before .before .args in
-    c .long-distinct .ensures ∙ sym (left-from (a .by) (a .s .now) (a .other) (a .list .start) (a .list .stop) 8 (c .before .before .before .before .before .before .compare .ensures) (c .before .before .before .before .i .given .1) .0)
+    c .long-distinct .ensures ∙ sym (left-from (a .by) (a .s .now) (a .other) (a .list .start) (a .list .stop) 16 (c .before .before .before .before .before .before .compare .ensures) (c .before .before .before .before .i .given .1) .0)
 
 pub are-distinct-spec : {M : Type 1} → statement M
 are-distinct-spec =

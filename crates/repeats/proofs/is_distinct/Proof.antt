@@ -28,13 +28,13 @@ returns-2 : tie.Need-returns-2
 returns-2 c =
     let a = c .before .before .before .before .before .before .before .args in
     let n = none-behind (a .by) (a .s .now) (c .before .before .before .no-element .ensures) in
-    sym (ap distinct (sym (n _)) ∙ left-repeated (a .by) (a .s .now) (c .before .before .before .no-element .result) (a .list .start) (a .list .stop) 8 (c .before .before .compare .ensures) (c .enum-told .given .1))
+    sym (ap distinct (sym (n _)) ∙ left-repeated (a .by) (a .s .now) (c .before .before .before .no-element .result) (a .list .start) (a .list .stop) 16 (c .before .before .compare .ensures) (c .enum-told .given .1))
 
 returns-3 : tie.Need-returns-3
 returns-3 c =
     let a = c .before .before .before .before .before .before .before .before .before .before .args in
     let n = none-behind (a .by) (a .s .now) (c .before .before .before .before .before .before .no-element .ensures) in
-    let w = left-other (a .by) (a .s .now) (c .before .before .before .before .before .before .no-element .result) (a .list .start) (a .list .stop) 8 (c .before .before .before .before .before .compare .ensures) (c .before .before .before .i .given .1) (c .if2 .taken) in
+    let w = left-other (a .by) (a .s .now) (c .before .before .before .before .before .before .no-element .result) (a .list .start) (a .list .stop) 16 (c .before .before .before .before .before .compare .ensures) (c .before .before .before .i .given .1) (c .if2 .taken) in
     sym (ap distinct (sym (n _)) ∙ w ∙ ap distinct (n []) ∙ distinct-none)
 
 long-distinct-requires : tie.Need-long-distinct-requires
@@ -44,7 +44,7 @@ returns-4 : tie.Need-returns-4
 returns-4 c =
     let a = c .before .before .before .before .before .before .before .before .before .before .before .args in
     let n = none-behind (a .by) (a .s .now) (c .before .before .before .before .before .before .before .no-element .ensures) in
-    let w = left-from (a .by) (a .s .now) (c .before .before .before .before .before .before .before .no-element .result) (a .list .start) (a .list .stop) 8 (c .before .before .before .before .before .before .compare .ensures) (c .before .before .before .before .i .given .1) .0 in
+    let w = left-from (a .by) (a .s .now) (c .before .before .before .before .before .before .before .no-element .result) (a .list .start) (a .list .stop) 16 (c .before .before .before .before .before .before .compare .ensures) (c .before .before .before .before .i .given .1) .0 in
     c .long-distinct .ensures ∙ sym (ap distinct (sym (n _)) ∙ w)
 
 pub is-distinct-spec : {M : Type 1} → statement M
