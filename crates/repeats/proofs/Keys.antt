@@ -116,15 +116,17 @@ module _ {l : List (List ℕ)} {k : List ℕ} {r : List (List ℕ)} (e : l ≡ k
   pub first-apart : member k (r ++ b) ≡ false → distinct (l ++ b) ≡ distinct (r ++ b)
   first-apart t = first-of ∙ rw t
 
+pub or-true : (a : Bool) {b : Bool} → b ≡ true → a || b ≡ true
+or-true true h = refl
+or-true false h = h
+
 -- where no two are equal, none stands before itself
 pub distinct-before : (a : List (List ℕ)) (k : List ℕ) (b : List (List ℕ)) → distinct (a ++ (k ∷ b)) ≡ true → member k a ≡ false
 distinct-before [] k b h = member-none k
 distinct-before (x ∷ a) k b h =
     let d = distinct-parts x (a ++ (k ∷ b)) h in
     by-test (same k x)
-    (λ t. absurd (true≢false (sym (member-append x a (k ∷ b) ∙ rw (member-hit x {l = k ∷ b} refl (ap (λ (y : List ℕ). same x y) (same→≡ k x t) ∙ same-refl x)) (or-true (member x a))) ∙ d .0)))
+    (λ t.
+    let m = member-hit x {l = k ∷ b} refl (ap (same x) (same→≡ k x t) ∙ same-refl x) in
+    absurd (true≢false (sym (member-append x a (k ∷ b) ∙ or-true (member x a) m) ∙ d .0)))
     (λ t. member-miss k {l = x ∷ a} refl t ∙ distinct-before a k b (d .1))
-  where
-    or-true : (b : Bool) → b || true ≡ true
-    or-true true = refl
-    or-true false = refl

@@ -9,6 +9,7 @@ use borrow.Author.Tests.{eq-eqb, ne-eqb, lt-ltb, le-ltb}
 use lib.ListN.{length}
 use Rattle.octets.specs.Octets.{octet}
 use Rattle.repeats.specs.Tree.{cell, extended, digit, child, findFrom}
+use Rattle.repeats.proofs.Keys.{or-true}
 
 pub extended-in : (key : List ℕ) (place : ℕ) → place < length key → extended key place ≡ 256 + octet key place
 unfolding extended
@@ -17,10 +18,6 @@ extended-in key place h = rw (lt-ltb place (length key) h, extended)
 pub extended-end : (key : List ℕ) (place : ℕ) → length key ≤ place → extended key place ≡ 0
 unfolding extended
 extended-end key place h = rw (le-ltb place (length key) h, extended)
-
-or-true : (a : Bool) {b : Bool} → b ≡ true → a || b ≡ true
-or-true true h = refl
-or-true false h = h
 
 module _ (tree key : List ℕ) where
   pub find-end : (n r : ℕ) → n ≡ 0 → findFrom n tree key r ≡ r / 2

@@ -1,4 +1,5 @@
--- What the members of a list are compared by, and how often a key stands in it.
+-- What the members of a list are compared by, and how often a key stands in it. 01, Answers, status 7: "a type repeated"; After acceptance, 34: "a repeated
+-- extension", "a repeated type or value"; 24: "an OID occurs twice in its two lists".
 use Prim.Native.Nat.{ℕ}
 use mathlib.Core.List.{List, map}
 use lib.ListN.{length}
