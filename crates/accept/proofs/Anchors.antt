@@ -20,6 +20,7 @@ use Rattle.store.specs.Signer.{signerFrom, signer}
 use Rattle.store.proofs.Walk.{records-of, signer-here, signer-unverified, signer-other}
 use Rattle.store.proofs.Parts.{records-count, record-at-position}
 use Rattle.protocol.specs.Acceptance.{rightsAt, numberAt}
+use Rattle.protocol.proofs.Lists.{getD-made}
 use Rattle.accept.specs.Signer.{recordOf, constraintsAt, rightsOn}
 use Rattle.accept.specs.Judged.{storeIn}
 
@@ -55,12 +56,6 @@ module _ (verdict wanted : List ℕ) (j : ℕ) where
 
   pub signer-anchor : (σ : Store) → signer (identifiers σ) verdict wanted ≡ At j → j < length (anchors σ)
   signer-anchor σ e = omega (arith, signer-below (identifiers σ) e, length-map (anchors σ) identifierOf)
-
--- a member of a list that was made of another
-getD-made : {A B : Type 0} (f : A → B) (l : List A) (i : ℕ) (a : A) (b : B) → i < length l → getD (map f l) i b ≡ f (getD l i a)
-getD-made f [] i a b h = absurd (omega arith)
-getD-made f (x ∷ l) zero a b h = refl
-getD-made f (x ∷ l) (suc i) a b h = getD-made f l i a b (omega arith)
 
 -- the first record is the apex
 listed : (l : List (List ℕ)) → 0 < length l → anchorIn (getD l 0 []) ∷ map anchorIn (drop 1 l) ≡ map anchorIn l

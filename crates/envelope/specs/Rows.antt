@@ -21,6 +21,8 @@ use Rattle.syntax.specs.Asn.{ContentInfo, ContentInfoSignedData, SignedData, En
 use Rattle.syntax.specs.Types.{recognised}
 use Rattle.envelope.specs.declared.Envelope.{Envelope}
 use Rattle.envelope.specs.declared.Envelope.the-variants.{Opened, Refused}
+use Rattle.envelope.specs.declared.Given.{Given}
+use Rattle.envelope.specs.declared.Given.the-variants.{Nothing, First}
 use Rattle.envelope.specs.Parts.{contentType, content, encapContentInfo, certificates, crls, signerInfos, eContentType, eContentTag, eContent}
 use Rattle.envelope.specs.Parts.{signerInfo, subjectKeyIdentifier, signedAttrs, unsignedAttrs}
 use Rattle.envelope.specs.Attributes.{attributesFit}
@@ -82,20 +84,36 @@ unfoldable pub givenUnknown : Recognised → Envelope → (TampType → Envelope
 givenUnknown (Tamp t) answer next = next t
 givenUnknown Unknown answer next = answer
 
+-- the rows 2, 3, 4 and 9, and the rows 5, 6, 7 and 8: they ask nothing of the four types. Row 29 stands before them, row 18 between.
+module _ {A : Type 0} (refusing : Status → ℕ → Element → A) (s : List ℕ) where
+  abbrev pub contentRows : A → A
+  contentRows next =
+      givenAt (row-2 s) (λ o. refusing badContentInfo o (absent 0))
+      (givenAt (row-3 s) (λ o. refusing badSignedData o (absent 0))
+      (givenAt (row-4 s) (λ o. refusing badEncapContent o (absent 0))
+      (givenIf (row-9 s) (refusing missingContent 0 (eContentType s)) next)))
+
+  abbrev pub signerRows : A → A
+  signerRows next =
+      givenIf (row-5 s) (refusing badCertificate 0 (eContentType s))
+      (givenAt (row-6 s) (λ o. refusing badSignerInfo o (eContentType s))
+      (givenAt (row-7 s) (λ o. refusing badSignedAttrs o (eContentType s))
+      (givenAt (row-8 s) (λ o. refusing badUnsignedAttrs o (eContentType s)) next)))
+
 -- what the rows up to 8 find
 unfoldable pub envelope : List ℕ → Envelope
 envelope s =
     let about = eContentType s in
     givenAt (row-1 s) (λ o. refuse decodeFailure o (absent 0))
     (givenIf (row-29 s) (refuse missingSignature 0 (contentType s))
-    (givenAt (row-2 s) (λ o. refuse badContentInfo o (absent 0))
-    (givenAt (row-3 s) (λ o. refuse badSignedData o (absent 0))
-    (givenAt (row-4 s) (λ o. refuse badEncapContent o (absent 0))
-    (givenIf (row-9 s) (refuse missingContent 0 about)
+    (contentRows refuse s
     (givenUnknown (row-18 s) (refuse unsupportedTAMPMsgType 0 about) λ kind.
-    (givenIf (row-5 s) (refuse badCertificate 0 about)
-    (givenAt (row-6 s) (λ o. refuse badSignerInfo o about)
-    (givenAt (row-7 s) (λ o. refuse badSignedAttrs o about)
-    (givenAt (row-8 s) (λ o. refuse badUnsignedAttrs o about)
+    (signerRows refuse s
     (Opened
-    (record { kind = kind; msgtype = about; content = eContent s; signer = subjectKeyIdentifier s; attributes = signedAttrs s }))))))))))))
+    (record { kind = kind; msgtype = about; content = eContent s; signer = subjectKeyIdentifier s; attributes = signedAttrs s }))))))
+
+-- the same rows for a content of any type: without 29 and 18
+unfoldable pub wrapper : List ℕ → Given
+wrapper s =
+    let first : Status → ℕ → Element → Given = λ status offset msgtype. First (refusal status offset msgtype) in
+    givenAt (row-1 s) (λ o. first decodeFailure o (absent 0)) (contentRows first s (signerRows first s Nothing))

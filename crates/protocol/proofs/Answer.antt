@@ -23,10 +23,10 @@ use Rattle.protocol.specs.Call.{Outcome, refused, answered, answerOf, gu
 use Rattle.protocol.proofs.Lists.{given-next}
 
 -- a refusal is no answer, and no acceptance
-refused≢answered : {n : Status} {status : Status} {reply next : List ℕ} → refused n ≡ answered status reply next → ⊥
+pub refused≢answered : {n : Status} {status : Status} {reply next : List ℕ} → refused n ≡ answered status reply next → ⊥
 refused≢answered e = let z : _≡_ {A = Bool} true false = cc in true≢false z
 
-Refuses≢Accepts : {r : Refusal} {q : Request} {i : ℕ} → Refuses r ≡ Accepts q i → ⊥
+pub Refuses≢Accepts : {r : Refusal} {q : Request} {i : ℕ} → Refuses r ≡ Accepts q i → ⊥
 Refuses≢Accepts e = let z : _≡_ {A = Bool} true false = cc in true≢false z
 
 module _ (s image verdict : List ℕ) (replyLent nextLent : ℕ) {status : Status} {reply next : List ℕ} where

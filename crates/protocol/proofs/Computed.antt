@@ -80,7 +80,7 @@ unfolding
     Rattle.envelope.specs.Rows.row-29 Rattle.envelope.specs.Rows.row-2 Rattle.envelope.specs.Rows.row-3 Rattle.envelope.specs.Rows.row-4
     Rattle.envelope.specs.Rows.row-9 Rattle.envelope.specs.Rows.row-18 Rattle.envelope.specs.Rows.row-5 Rattle.envelope.specs.Rows.row-6
     Rattle.envelope.specs.Rows.row-7 Rattle.envelope.specs.Rows.row-8 Rattle.envelope.specs.Rows.givenUnknown
-    Rattle.envelope.specs.Rows.envelope
+    Rattle.envelope.specs.Rows.envelope Rattle.envelope.specs.Rows.wrapper Rattle.envelope.specs.Given.givenFirst
 computed-envelope = tt
 
 unfoldable computed-message : Unit {0}
@@ -123,6 +123,8 @@ unfolding
     Rattle.protocol.specs.Examples.queryCut Rattle.protocol.specs.Examples.communityTwice Rattle.protocol.specs.Examples.addCertPath
     Rattle.protocol.specs.Update.added Rattle.protocol.specs.Update.removed Rattle.protocol.specs.Update.step
     Rattle.protocol.specs.Update.steps Rattle.protocol.specs.Update.stamped Rattle.protocol.specs.Update.allStamped
+    Rattle.protocol.specs.Permit.signedContent Rattle.protocol.specs.Permit.permitBy Rattle.protocol.specs.Permit.permitOn
+    Rattle.protocol.specs.Permit.permitOf Rattle.protocol.specs.Permit.permit
 computed-tamp = tt
 
 unfoldable pub computed : Unit {0}

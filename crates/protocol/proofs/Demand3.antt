@@ -54,7 +54,7 @@ module _ (content : Content) (σ : Store) (w : wellFormed σ ≡ true) (g : Give
         kept = holders-effect content (g .message) q i σ (u (rightsAt σ i) (rw (d, e, j)));
       })
 
-  left-by : Left content σ (leftBy (encode σ) (outcome (encode σ) g))
+  pub left-by : Left content σ (leftBy (encode σ) (outcome (encode σ) g))
   unfolding leftBy
   left-by = go (outcome (encode σ) g) refl
     where
@@ -63,21 +63,24 @@ module _ (content : Content) (σ : Store) (w : wellFormed σ ≡ true) (g : Give
       go (answered status reply next) e = left-answered status reply next e
 
 -- over the list of calls
-over-calls : (content : Content) (calls : List Given) (σ : Store) → wellFormed σ ≡ true → Unauthorised content (encode σ) calls
-    → authorising content (recordsOf (after (encode σ) calls)) ≡ map encodeAnchor (holders content σ)
+pub left-after : (content : Content) (calls : List Given) (σ : Store) → wellFormed σ ≡ true → Unauthorised content (encode σ) calls
+    → Left content σ (after (encode σ) calls)
 unfolding after
-over-calls content [] σ w u = records-of-holders content σ w
-over-calls content (g ∷ gs) σ w u =
+left-after content [] σ w u = record { store = σ; image = refl; good = w; kept = refl }
+left-after content (g ∷ gs) σ w u =
     let l = left-by content σ w g (u .0) in
-    ap (λ image. authorising content (recordsOf (after image gs))) (l .image)
-    ∙ over-calls content gs (l .store) (l .good) (subst (λ image. Unauthorised content image gs) (l .image) (u .1))
-    ∙ ap (map encodeAnchor) (l .kept)
+    let m = left-after content gs (l .store) (l .good) (subst (λ image. Unauthorised content image gs) (l .image) (u .1)) in
+    record { store = m .store; image = ap (λ image. after image gs) (l .image) ∙ m .image; good = m .good; kept = m .kept ∙ l .kept }
 
 pub demand3 : Demand3
 demand3 image σ o d content calls u =
     let e = encode-decode image σ o d in
     let w = decode-wellFormed image σ d in
+    let l = left-after content calls σ w (rw (← e) at u) in
     let whole : authorising content (recordsOf (after (encode σ) calls)) ≡ authorising content (recordsOf (encode σ)) =
-    over-calls content calls σ w (rw (← e) at u) ∙ sym (records-of-holders content σ w)
+    ap (λ image. authorising content (recordsOf image)) (l .image)
+    ∙ records-of-holders content (l .store) (l .good)
+    ∙ ap (map encodeAnchor) (l .kept)
+    ∙ sym (records-of-holders content σ w)
     in
     rw e at whole

@@ -2,6 +2,7 @@
 use mathlib.Core.Path.{refl}
 use Rattle.rights.proofs.Examples.{p1-to-p10}
 use Rattle.protocol.specs.Examples.{P11, P12, P1-P12, Listings, TwelveAnswers}
+use Rattle.protocol.specs.PermitExamples as permit
 use Rattle.protocol.proofs.Computed.{computed}
 
 p11 : P11
@@ -23,3 +24,7 @@ listings = (refl, refl)
 pub twelve-answers : TwelveAnswers
 unfolding computed
 twelve-answers = (refl, refl, refl, refl, refl, refl, refl, refl, refl, refl, refl, refl)
+
+pub permit-answers : permit.PermitAnswers
+unfolding computed permit.rows permit.seasonRows permit.image
+permit-answers = (refl, refl, refl, refl, refl, refl, refl, refl, refl, refl, refl, refl, refl, refl, refl)

@@ -9,3 +9,7 @@ pub mod Records
 pub mod Demand3
 pub mod NotEmpty
 pub mod Demand2
+pub mod Permit
+pub mod Desk
+pub mod DeskExample
+pub mod OneReading

@@ -1,8 +1,10 @@
 -- Laws of `givenIf`, of the tests on lists (octets, specs/Lists), and of lists of octet strings with no two equal.
-use Prim.Native.Nat.{ℕ}
+use Prim.Native.Nat.{ℕ, zero, suc, _<_}
+use native.Mathlib.Omega.{arith}
 use mathlib.Core.Bool.{Bool, true, false, not, _||_, and-eq-true-iff}
 use mathlib.Core.List.{List, [], _∷_, _++_, map, map-id, append-nil}
 use mathlib.Core.Path.{_≡_, refl, sym, _∙_, ap, ap₂}
+use lib.ListN.{length, getD}
 use Rattle.octets.specs.First.{givenIf}
 use borrow.Author.Tests.{not-true}
 use Rattle.octets.specs.Lists.{anyOf, allOf, keep, distinctBy}
@@ -125,6 +127,42 @@ module _ {A : Type 0} where
   anyOf-false p (x ∷ l) e =
       let h = neither (p x) (anyOf p l) e in
       both (ap not (h .0)) (anyOf-false p l (h .1))
+
+  -- a member that passes is kept
+  pub kept-place : (p : A → Bool) (l : List A) (k : ℕ) (d : A) → k < length l → p (getD l k d) ≡ true
+      → (m : ℕ) × (m < length (keep p l)) × (getD (keep p l) m d ≡ getD l k d)
+  kept-place p [] k d h t = absurd (omega arith)
+  kept-place p (x ∷ l) zero d h t = rw (keep-in p x l t) (0, omega arith, refl)
+  kept-place p (x ∷ l) (suc k) d h t =
+      let n = kept-place p l k d (omega arith) t in
+      by-test (p x) (λ e. rw (keep-in p x l e) (suc (n .0), omega (arith, n .1), n .2)) (λ e. rw (keep-out p x l e) n)
+
+  -- a member that passes, and is y
+  abbrev pub Passing : (A → Bool) → List A → A → A → Type 0
+  Passing p l d y = (j : ℕ) × (j < length l) × (getD l j d ≡ y) × (p (getD l j d) ≡ true)
+
+  passing-behind : (p : A → Bool) (x : A) (l : List A) (d y : A) → Passing p l d y → Passing p (x ∷ l) d y
+  passing-behind p x l d y n = (suc (n .0), omega (arith, n .1), n .2, n .3)
+
+  -- what is kept is one
+  pub kept-from : (p : A → Bool) (l : List A) (m : ℕ) (d : A) → m < length (keep p l) → Passing p l d (getD (keep p l) m d)
+  unfolding keep
+  kept-from p [] m d h = absurd (omega arith)
+  kept-from p (x ∷ l) m d h =
+      by-test (p x)
+      (λ e. rw (keep-in p x l e) (here m e (rw (keep-in p x l e) at h) (λ k g. kept-from p l k d g)))
+      (λ e. rw (keep-out p x l e) (passing-behind p x l d _ (kept-from p l m d (rw (keep-out p x l e) at h))))
+    where
+      here : (m : ℕ) → p x ≡ true → m < length (x ∷ keep p l) → ((k : ℕ) → k < length (keep p l) → Passing p l d (getD (keep p l) k d))
+          → Passing p (x ∷ l) d (getD (x ∷ keep p l) m d)
+      here zero e h f = (0, omega arith, refl, e)
+      here (suc m) e h f = passing-behind p x l d _ (f m (omega arith))
+
+-- a member of a list that was made of another
+pub getD-made : {A B : Type 0} (f : A → B) (l : List A) (i : ℕ) (a : A) (b : B) → i < length l → getD (map f l) i b ≡ f (getD l i a)
+getD-made f [] i a b h = absurd (omega arith)
+getD-made f (x ∷ l) zero a b h = refl
+getD-made f (x ∷ l) (suc i) a b h = getD-made f l i a b (omega arith)
 
 pub keep-map : {A B : Type 0} (p : B → Bool) (q : A → Bool) (f : A → B) → ((x : A) → p (f x) ≡ q x) → (l : List A) → keep p (map f l) ≡ map f (keep q l)
 unfolding keep

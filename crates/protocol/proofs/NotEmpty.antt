@@ -40,7 +40,7 @@ message =
     ++ (octetsOf "30 19 06 09 2A 86 48 86 F7 0D 01 09 03 31 0C 06 0A 60 86 48 01 65 02 01 02 4D 03 30 2F 06 09 2A 86 48 86 F7 0D 01 09 04 31 22 04 20 11 11 11 11"
     ++ octetsOf "11 11 11 11 11 11 11 11 11 11 11 11 11 11 11 11 11 11 11 11 11 11 11 11 11 11 11 11 30 05 06 03 2B 65 70 04 08 22 22 22 22 22 22 22 22")))
 
-image-octets : Octets image
+pub image-octets : Octets image
 unfolding computed image
 image-octets = octets-of image refl
 
@@ -58,7 +58,7 @@ abbrev pub manager : Rights
 manager = (content .type, free) ∷ (octetsOf "60 86 48 01 65 02 01 02 4D 03", free) ∷ []
 
 -- the message is accepted, and its signer's rights authorise the content
-accepted : acceptedSigner image enrolment ≡ some manager
+pub accepted : acceptedSigner image enrolment ≡ some manager
 unfolding computed signerIn signerOf image message
 accepted = refl
 

@@ -60,7 +60,7 @@ abbrev InJudgement : Judgement → Type 0
 InJudgement (Refuses r) = Small r
 InJudgement (Accepts q i) = Unit {0}
 
-by-givenAt : {A : Type 0} (P : A → Type 0) (f : Fit) {answer : ℕ → A} {next : A} → ((o : ℕ) → P (answer o)) → P next → P (givenAt f answer next)
+pub by-givenAt : {A : Type 0} (P : A → Type 0) (f : Fit) {answer : ℕ → A} {next : A} → ((o : ℕ) → P (answer o)) → P next → P (givenAt f answer next)
 unfolding givenAt
 by-givenAt P Fits a n = n
 by-givenAt P (Breaks o) a n = a o

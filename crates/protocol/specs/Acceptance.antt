@@ -8,6 +8,7 @@ use lib.Dec.{leb, ltb}
 use Rattle.octets.specs.declared.Status.{Status}
 use Rattle.octets.specs.Status.{success, noTrustAnchor, signatureFailure, notAuthorized, seqNumFailure}
 use Rattle.octets.specs.First.{givenIf}
+use Rattle.der.specs.declared.Element.{Element}
 use Rattle.der.specs.Element.{contents}
 use Rattle.syntax.specs.declared.TampType.{TampType}
 use Rattle.syntax.specs.declared.TampType.the-variants.{StatusQuery, Update, CommunityUpdate, SeqNumAdjust}
@@ -52,8 +53,11 @@ isNamed target.Unsupported = false
 isNamed target.Elsewhere = false
 
 -- "the message's type as source with the signed attributes other than content-type and message-digest"
+abbrev pub sourceOf : List ℕ → Element → Element → Content
+sourceOf s type attributes = record { type = contents s type; role = source; attributes = pairs s attributes }
+
 unfoldable pub messageContent : List ℕ → Request → Content
-messageContent s q = record { type = contents s (q .msgtype); role = source; attributes = pairs s (q .attributes) }
+messageContent s q = sourceOf s (q .msgtype) (q .attributes)
 
 -- 11: the signer doesn't authorise it
 unfoldable pub row-11 : Rights → List ℕ → Request → Bool

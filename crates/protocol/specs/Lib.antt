@@ -6,3 +6,8 @@ pub mod Call
 pub mod Demand3
 pub mod Examples
 pub mod Demand2
+pub mod Permit
+pub mod PermitExamples
+pub mod Permitted
+pub mod Desk
+pub mod OneReading

@@ -32,7 +32,7 @@ left-is image m p = go (outcome image (given m)) (numbered-call (m .message) ima
         rw (lt-leb 201 (m .answer .number) (omega arith), leftOf) (ap₂ take (k ∙ z) b ∙ take-behind-placed (m .next) 0 next (omega arith))
 
 -- what all calls left
-after-is : (image : List ℕ) (calls : List Made) → Kept image calls → afterAll image calls ≡ after image (map given calls)
+pub after-is : (image : List ℕ) (calls : List Made) → Kept image calls → afterAll image calls ≡ after image (map given calls)
 unfolding afterAll after
 after-is image [] k = refl
 after-is image (m ∷ ms) k =

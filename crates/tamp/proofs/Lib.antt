@@ -6,3 +6,4 @@ pub mod Effects
 pub mod Verdicts
 pub mod Decided
 pub mod Demand3
+pub mod Desk

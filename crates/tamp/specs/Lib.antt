@@ -1,3 +1,4 @@
 pub mod Left
 pub mod Given
 pub mod Demand3
+pub mod Desk
