@@ -6,29 +6,8 @@ use Rattle.accept.proofs.Rows.{any-number, number-weighed}
 use Rattle.accept.proofs.is_number_refused.Statement.{statement}
 use Rattle.accept.proofs.is_number_refused.Tie as tie
 
-record-of-requires : tie.Need-record-of-requires
-record-of-requires c κs = search needs
-
-number-of-requires : tie.Need-number-of-requires
-number-of-requires c κs = search needs
-
-enum-known-stored : tie.Need-enum-known-stored
-enum-known-stored c = search needs
-
-enum-told : tie.Need-enum-told
-enum-told c = search needs
-
 returns : tie.Need-returns
 returns c asks = any-number _ _ (c .enum-told .given .1) (c .before .before .number-of .ensures ∙ ap numberIn (c .before .before .before .record-of .ensures))
-
-field-requires : tie.Need-field-requires
-field-requires c κs = search needs
-
-number-in-requires : tie.Need-number-in-requires
-number-in-requires c κs = search needs
-
-is-too-low-requires : tie.Need-is-too-low-requires
-is-too-low-requires c κs = search needs
 
 returns-2 : tie.Need-returns-2
 returns-2 c asks =
@@ -39,12 +18,12 @@ pub is-number-refused-spec : {M : Type 1} → statement M
 is-number-refused-spec =
     tie.close
     (tie.spec
-    record-of-requires
-    number-of-requires
-    enum-known-stored
-    enum-told
+    (λ c κs. search needs)
+    (λ c κs. search needs)
+    (λ c. search needs)
+    (λ c. search needs)
     returns
-    field-requires
-    number-in-requires
-    is-too-low-requires
+    (λ c κs. search needs)
+    (λ c κs. search needs)
+    (λ c κs. search needs)
     returns-2)

@@ -4,18 +4,6 @@ use Rattle.protocol.specs.Acceptance.{tooLow}
 use Rattle.accept.proofs.is_too_low.Statement.{statement}
 use Rattle.accept.proofs.is_too_low.Tie as tie
 
-enum-told : tie.Need-enum-told
-enum-told c = search needs
-
-enum-told-2 : tie.Need-enum-told-2
-enum-told-2 c = search needs
-
-enum-told-3 : tie.Need-enum-told-3
-enum-told-3 c = search needs
-
-enum-told-4 : tie.Need-enum-told-4
-enum-told-4 c = search needs
-
 returns : tie.Need-returns
 unfolding tooLow
 returns c = rw (c .enum-told .given .1)
@@ -36,10 +24,10 @@ pub is-too-low-spec : {M : Type 1} → statement M
 is-too-low-spec =
     tie.close
     (tie.spec
-    enum-told
-    enum-told-2
-    enum-told-3
-    enum-told-4
+    (λ c. search needs)
+    (λ c. search needs)
+    (λ c. search needs)
+    (λ c. search needs)
     returns
     returns-2
     returns-3

@@ -9,19 +9,10 @@ use Rattle.accept.proofs.is_unauthorised.Tie as tie
 returns : tie.Need-returns
 returns c = apex-may _ _ _ (c .if1 .taken)
 
-rights-at-requires : tie.Need-rights-at-requires
-rights-at-requires c κs = search needs
-
-contents-requires : tie.Need-contents-requires
-contents-requires c κs = search needs
-
-authorises-requires : tie.Need-authorises-requires
-authorises-requires c κs = search needs
-
 returns-2 : tie.Need-returns-2
 returns-2 c =
     ap not (c .authorises .ensures) ∙ other-may _ _ _ _ (c .before .before .before .if1 .left) (c .before .before .rights-at .ensures) (c .before .contents .ensures)
 
 pub is-unauthorised-spec : {M : Type 1} → statement M
 is-unauthorised-spec =
-    tie.close (tie.spec returns rights-at-requires contents-requires authorises-requires returns-2)
+    tie.close (tie.spec returns (λ c κs. search needs) (λ c κs. search needs) (λ c κs. search needs) returns-2)

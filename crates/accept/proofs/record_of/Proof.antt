@@ -5,15 +5,9 @@ use Rattle.store.specs.Parts.{recordAt}
 use Rattle.accept.proofs.record_of.Statement.{statement}
 use Rattle.accept.proofs.record_of.Tie as tie
 
-record-place-requires : tie.Need-record-place-requires
-record-place-requires c κs = search needs
-
-record-at-requires : tie.Need-record-at-requires
-record-at-requires c κs = search needs
-
 returns : tie.Need-returns
 returns c = c .record-at .ensures ∙ ap (recordAt _) (c .before .record-place .ensures)
 
 pub record-of-spec : {M : Type 1} → statement M
 record-of-spec =
-    tie.close (tie.spec record-place-requires record-at-requires returns)
+    tie.close (tie.spec (λ c κs. search needs) (λ c κs. search needs) returns)

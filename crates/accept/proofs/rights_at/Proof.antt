@@ -6,19 +6,10 @@ use Rattle.store.specs.Parts.{infoIn}
 use Rattle.accept.proofs.rights_at.Statement.{statement}
 use Rattle.accept.proofs.rights_at.Tie as tie
 
-record-of-requires : tie.Need-record-of-requires
-record-of-requires c κs = search needs
-
-info-of-requires : tie.Need-info-of-requires
-info-of-requires c κs = search needs
-
-constraints-value-requires : tie.Need-constraints-value-requires
-constraints-value-requires c κs = search needs
-
 returns : tie.Need-returns
 returns c =
     c .constraints-value .ensures ∙ ap constraintsValue (c .before .info-of .ensures ∙ ap infoIn (c .before .before .record-of .ensures))
 
 pub rights-at-spec : {M : Type 1} → statement M
 rights-at-spec =
-    tie.close (tie.spec record-of-requires info-of-requires constraints-value-requires returns)
+    tie.close (tie.spec (λ c κs. search needs) (λ c κs. search needs) (λ c κs. search needs) returns)

@@ -5,30 +5,6 @@ use Rattle.accept.proofs.Rows.{store-11, store-21, weigh-refuses, weigh
 use Rattle.accept.proofs.weigh.Statement.{statement}
 use Rattle.accept.proofs.weigh.Tie as tie
 
-target-for-requires : tie.Need-target-for-requires
-target-for-requires c κs = search needs
-
-target-status-requires : tie.Need-target-status-requires
-target-status-requires c κs = search needs
-
-is-unauthorised-requires : tie.Need-is-unauthorised-requires
-is-unauthorised-requires c κs = search needs
-
-or-if-requires : tie.Need-or-if-requires
-or-if-requires c κs = search needs
-
-is-number-refused-requires : tie.Need-is-number-refused-requires
-is-number-refused-requires c κs = search needs
-
-or-if-requires-2 : tie.Need-or-if-requires-2
-or-if-requires-2 c κs = search needs
-
-refuses-requires : tie.Need-refuses-requires
-refuses-requires c κs = search needs
-
-refuse-requires : tie.Need-refuse-requires
-refuse-requires c κs = search needs
-
 returns : tie.Need-returns
 returns c asks below =
     let r21 = c .before .before .before in
@@ -68,13 +44,13 @@ pub weigh-spec : {M : Type 1} → statement M
 weigh-spec =
     tie.close
     (tie.spec
-    target-for-requires
-    target-status-requires
-    is-unauthorised-requires
-    or-if-requires
-    is-number-refused-requires
-    or-if-requires-2
-    refuses-requires
-    refuse-requires
+    (λ c κs. search needs)
+    (λ c κs. search needs)
+    (λ c κs. search needs)
+    (λ c κs. search needs)
+    (λ c κs. search needs)
+    (λ c κs. search needs)
+    (λ c κs. search needs)
+    (λ c κs. search needs)
     returns
     returns-2)

@@ -18,23 +18,8 @@ Inv-loop v stop i₀ found₀ i found = together found (faultsIn attributeFaults
 abbrev μ-loop : tie.MeasureT-loop
 μ-loop v stop i₀ found₀ i found = stop - i
 
-no-faults-requires : tie.Need-no-faults-requires Inv-loop μ-loop
-no-faults-requires c κs = search needs
-
 loop-holds : tie.Need-loop-holds Inv-loop μ-loop
 loop-holds c = rw (c .no-faults .ensures) (none-together _)
-
-element-at-requires : tie.Need-element-at-requires Inv-loop μ-loop
-element-at-requires c κs = search needs
-
-attribute-faults-requires : tie.Need-attribute-faults-requires Inv-loop μ-loop
-attribute-faults-requires c κs = search needs
-
-together-requires : tie.Need-together-requires Inv-loop μ-loop
-together-requires c κs = search needs
-
-next-requires : tie.Need-next-requires Inv-loop μ-loop
-next-requires c κs = search needs
 
 loop-less : tie.Need-loop-less Inv-loop μ-loop
 loop-less c =
@@ -64,12 +49,12 @@ attributes-faults-spec =
     (tie.spec
     Inv-loop
     μ-loop
-    no-faults-requires
+    (λ c κs. search needs)
     loop-holds
-    element-at-requires
-    attribute-faults-requires
-    together-requires
-    next-requires
+    (λ c κs. search needs)
+    (λ c κs. search needs)
+    (λ c κs. search needs)
+    (λ c κs. search needs)
     loop-less
     loop-again
     returns)

@@ -4,9 +4,6 @@ use Rattle.syntax.specs.Forms.{formSyntax}
 use Rattle.anchor.proofs.bad_constraints.Statement.{statement}
 use Rattle.anchor.proofs.bad_constraints.Tie as tie
 
-conforms-requires : tie.Need-conforms-requires
-conforms-requires c κs = search needs
-
 returns : tie.Need-returns
 unfolding formSyntax
 returns c = rw (c .before .if1 .taken, c .conforms .ensures)
@@ -15,4 +12,4 @@ returns-2 : tie.Need-returns-2
 returns-2 c = rw (c .if1 .left)
 
 pub bad-constraints-spec : {M : Type 1} → statement M
-bad-constraints-spec = tie.close (tie.spec conforms-requires returns returns-2)
+bad-constraints-spec = tie.close (tie.spec (λ c κs. search needs) returns returns-2)

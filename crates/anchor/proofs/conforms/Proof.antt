@@ -6,17 +6,11 @@ use Rattle.anchor.proofs.Stages.{conforms-bad, conforms-long, conforms-
 use Rattle.anchor.proofs.conforms.Statement.{statement}
 use Rattle.anchor.proofs.conforms.Tie as tie
 
-root-requires : tie.Need-root-requires
-root-requires c κs = search needs
-
 returns : tie.Need-returns
 returns c = conforms-bad _ _ (c .before .before .root .ensures) (not-true _ (c .if1 .taken))
 
 returns-2 : tie.Need-returns-2
 returns-2 c = conforms-long _ _ (c .before .before .before .before .root .ensures) (not-false _ (c .before .before .if1 .left)) (c .if2 .taken)
-
-conforms-requires : tie.Need-conforms-requires
-conforms-requires c κs = search needs
 
 returns-3 : tie.Need-returns-3
 returns-3 c =
@@ -24,4 +18,4 @@ returns-3 c =
     ∙ conforms-whole _ _ (c .before .before .before .before .before .root .ensures) (not-false _ (c .before .before .before .if1 .left)) (c .before .if2 .left)
 
 pub conforms-spec : {M : Type 1} → statement M
-conforms-spec = tie.close (tie.spec root-requires returns returns-2 conforms-requires returns-3)
+conforms-spec = tie.close (tie.spec (λ c κs. search needs) returns returns-2 (λ c κs. search needs) returns-3)

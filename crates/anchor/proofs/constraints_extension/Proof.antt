@@ -4,15 +4,9 @@ use Rattle.anchor.specs.Info.{extensions, constraintsExtension}
 use Rattle.anchor.proofs.constraints_extension.Statement.{statement}
 use Rattle.anchor.proofs.constraints_extension.Tie as tie
 
-extension-list-requires : tie.Need-extension-list-requires
-extension-list-requires c κs = search needs
-
-constraints-in-requires : tie.Need-constraints-in-requires
-constraints-in-requires c κs = search needs
-
 returns : tie.Need-returns
 unfolding constraintsExtension extensions
 returns c = rw (c .constraints-in .ensures, c .before .extension-list .ensures)
 
 pub constraints-extension-spec : {M : Type 1} → statement M
-constraints-extension-spec = tie.close (tie.spec extension-list-requires constraints-in-requires returns)
+constraints-extension-spec = tie.close (tie.spec (λ c κs. search needs) (λ c κs. search needs) returns)

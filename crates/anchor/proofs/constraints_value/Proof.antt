@@ -3,15 +3,9 @@ use borrow.Author.Needs.{needs}
 use Rattle.anchor.proofs.constraints_value.Statement.{statement}
 use Rattle.anchor.proofs.constraints_value.Tie as tie
 
-constraints-extension-requires : tie.Need-constraints-extension-requires
-constraints-extension-requires c κs = search needs
-
-extn-value-requires : tie.Need-extn-value-requires
-extn-value-requires c κs = search needs
-
 returns : tie.Need-returns
 returns c = rw (c .extn-value .ensures, c .before .constraints-extension .ensures)
 
 pub constraints-value-spec : {M : Type 1} → statement M
 constraints-value-spec =
-    tie.close (tie.spec constraints-extension-requires extn-value-requires returns)
+    tie.close (tie.spec (λ c κs. search needs) (λ c κs. search needs) returns)

@@ -3,14 +3,8 @@ use borrow.Author.Needs.{needs}
 use Rattle.anchor.proofs.extn_value.Statement.{statement}
 use Rattle.anchor.proofs.extn_value.Tie as tie
 
-field-requires : tie.Need-field-requires
-field-requires c κs = search needs
-
-contents-requires : tie.Need-contents-requires
-contents-requires c κs = search needs
-
 returns : tie.Need-returns
 returns c = rw (c .contents .ensures, c .before .field .ensures)
 
 pub extn-value-spec : {M : Type 1} → statement M
-extn-value-spec = tie.close (tie.spec field-requires contents-requires returns)
+extn-value-spec = tie.close (tie.spec (λ c κs. search needs) (λ c κs. search needs) returns)

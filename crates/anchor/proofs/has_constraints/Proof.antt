@@ -5,11 +5,8 @@ use Rattle.der.specs.declared.Element.{Element}
 use Rattle.anchor.proofs.has_constraints.Statement.{statement}
 use Rattle.anchor.proofs.has_constraints.Tie as tie
 
-constraints-extension-requires : tie.Need-constraints-extension-requires
-constraints-extension-requires c κs = search needs
-
 returns : tie.Need-returns
 returns c = ap (λ (x : Element). x .good) (c .constraints-extension .ensures)
 
 pub has-constraints-spec : {M : Type 1} → statement M
-has-constraints-spec = tie.close (tie.spec constraints-extension-requires returns)
+has-constraints-spec = tie.close (tie.spec (λ c κs. search needs) returns)

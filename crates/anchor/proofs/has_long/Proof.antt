@@ -25,12 +25,6 @@ abbrev μ-loop : tie.MeasureT-loop
 loop-holds : tie.Need-loop-holds Inv-loop μ-loop
 loop-holds c = refl
 
-element-at-requires : tie.Need-element-at-requires Inv-loop μ-loop
-element-at-requires c κs = search needs
-
-whole-requires : tie.Need-whole-requires Inv-loop μ-loop
-whole-requires c κs = search needs
-
 returns : tie.Need-returns Inv-loop μ-loop
 returns c =
     let a = c .before .before .before .before .before .before .args in
@@ -39,9 +33,6 @@ returns c =
     let t = c .before .before .before .loop-test .taken in
     let h = ap (λ (o : List ℕ). ltb maxValueOctets (length o)) (sym (c .before .whole .ensures)) ∙ lt-ltb _ _ (c .if1 .taken) in
     sym (any-hit (isLong (a .s .now)) (a .s .now) (l .i) (a .outer .stop) q t h) ∙ l .inv
-
-next-requires : tie.Need-next-requires Inv-loop μ-loop
-next-requires c κs = search needs
 
 loop-less : tie.Need-loop-less Inv-loop μ-loop
 loop-less c =
@@ -73,10 +64,10 @@ has-long-spec =
     Inv-loop
     μ-loop
     loop-holds
-    element-at-requires
-    whole-requires
+    (λ c κs. search needs)
+    (λ c κs. search needs)
     returns
-    next-requires
+    (λ c κs. search needs)
     loop-less
     loop-again
     returns-2)

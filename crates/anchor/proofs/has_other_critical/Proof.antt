@@ -20,12 +20,6 @@ abbrev μ-loop : tie.MeasureT-loop
 loop-holds : tie.Need-loop-holds Inv-loop μ-loop
 loop-holds c = refl
 
-element-at-requires : tie.Need-element-at-requires Inv-loop μ-loop
-element-at-requires c κs = search needs
-
-is-other-critical-requires : tie.Need-is-other-critical-requires Inv-loop μ-loop
-is-other-critical-requires c κs = search needs
-
 returns : tie.Need-returns Inv-loop μ-loop
 returns c =
     let a = c .before .before .before .before .before .before .args in
@@ -33,9 +27,6 @@ returns c =
     let q = c .before .before .element-at .ensures in
     let t = c .before .before .before .loop-test .taken in
     sym (any-hit (isOtherCritical (a .t .now)) (a .t .now) (l .i) (a .list .stop) q t (sym (c .before .is-other-critical .ensures) ∙ c .if1 .taken)) ∙ l .inv
-
-next-requires : tie.Need-next-requires Inv-loop μ-loop
-next-requires c κs = search needs
 
 loop-less : tie.Need-loop-less Inv-loop μ-loop
 loop-less c =
@@ -66,10 +57,10 @@ has-other-critical-spec =
     Inv-loop
     μ-loop
     loop-holds
-    element-at-requires
-    is-other-critical-requires
+    (λ c κs. search needs)
+    (λ c κs. search needs)
     returns
-    next-requires
+    (λ c κs. search needs)
     loop-less
     loop-again
     returns-2)

@@ -7,12 +7,6 @@ use Rattle.anchor.specs.Info.{critical}
 use Rattle.anchor.proofs.is_other_critical.Statement.{statement}
 use Rattle.anchor.proofs.is_other_critical.Tie as tie
 
-field-requires : tie.Need-field-requires
-field-requires c κs = search needs
-
-is-constraints-requires : tie.Need-is-constraints-requires
-is-constraints-requires c κs = search needs
-
 returns : tie.Need-returns
 returns c =
     let a = c .before .before .before .before .args in
@@ -27,4 +21,4 @@ returns-2 c =
 
 pub is-other-critical-spec : {M : Type 1} → statement M
 is-other-critical-spec =
-    tie.close (tie.spec field-requires is-constraints-requires returns returns-2)
+    tie.close (tie.spec (λ c κs. search needs) (λ c κs. search needs) returns returns-2)

@@ -6,15 +6,6 @@ use Rattle.anchor.proofs.Stages.{storable-is, storable-not}
 use Rattle.anchor.proofs.is_storable.Statement.{statement}
 use Rattle.anchor.proofs.is_storable.Tie as tie
 
-conforms-requires : tie.Need-conforms-requires
-conforms-requires c κs = search needs
-
-judge-requires : tie.Need-judge-requires
-judge-requires c κs = search needs
-
-status-requires : tie.Need-status-requires
-status-requires c κs = search needs
-
 returns : tie.Need-returns
 unfolding formSyntax
 returns c = storable-is _ (c .before .before .before .before .before .conforms .ensures) (c .before .before .before .before .if1 .taken) (c .before .before .before .judge .ensures) (c .before .before .status .ensures)
@@ -25,4 +16,4 @@ returns-2 c = sym (storable-not _ (c .before .conforms .ensures) (c .if1 .left))
 
 pub is-storable-spec : {M : Type 1} → statement M
 is-storable-spec =
-    tie.close (tie.spec conforms-requires judge-requires status-requires returns returns-2)
+    tie.close (tie.spec (λ c κs. search needs) (λ c κs. search needs) (λ c κs. search needs) returns returns-2)

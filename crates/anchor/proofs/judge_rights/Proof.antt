@@ -39,9 +39,6 @@ past-7 c = passed (past-6 (c .before)) (values-is _ (c .before .before .before .
 past-8 : (c : tie.Else8) → PastOf 8 (c .before .before .before .before .before .before .before .before .before .before .before .before .before)
 past-8 c = passed (past-7 (c .before)) (octets-is _ (c .before .before .before .before .before .before .before .before .before .rights-faults .ensures) ∙ c .if8 .left)
 
-rights-faults-requires : tie.Need-rights-faults-requires
-rights-faults-requires c κs = search needs
-
 returns : tie.Need-returns
 returns c = given (past-0 (c .before .before .before .before .before)) (repeated-is _ (c .before .rights-faults .ensures) ∙ c .if1 .taken)
 
@@ -50,9 +47,6 @@ returns-2 c = given (past-1 (c .before)) (unlike-is _ (c .before .before .rights
 
 returns-3 : tie.Need-returns-3
 returns-3 c = given (past-2 (c .before)) (lt-ltb _ _ (c .if3 .taken))
-
-identifier-outside-requires : tie.Need-identifier-outside-requires
-identifier-outside-requires c κs = search needs
 
 returns-4 : tie.Need-returns-4
 returns-4 c = given (past-3 (c .before .before)) (sym (c .before .identifier-outside .ensures) ∙ c .if4 .taken)
@@ -76,11 +70,11 @@ pub judge-rights-spec : {M : Type 1} → statement M
 judge-rights-spec =
     tie.close
     (tie.spec
-    rights-faults-requires
+    (λ c κs. search needs)
     returns
     returns-2
     returns-3
-    identifier-outside-requires
+    (λ c κs. search needs)
     returns-4
     returns-5
     returns-6

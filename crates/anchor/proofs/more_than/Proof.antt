@@ -26,15 +26,6 @@ returns c =
     let l = c .before .before .loop in
     sym (more-hit (l .left) (a .s .now) (l .i) (a .outer .stop) refl (c .before .loop-test .taken) (c .if1 .taken)) ∙ l .inv
 
-sub-left : tie.Need-sub-left Inv-loop μ-loop
-sub-left c = search needs
-
-element-at-requires : tie.Need-element-at-requires Inv-loop μ-loop
-element-at-requires c κs = search needs
-
-next-requires : tie.Need-next-requires Inv-loop μ-loop
-next-requires c κs = search needs
-
 loop-less : tie.Need-loop-less Inv-loop μ-loop
 loop-less c =
     let a = c .before .before .before .before .before .before .args in
@@ -65,9 +56,9 @@ more-than-spec =
     μ-loop
     loop-holds
     returns
-    sub-left
-    element-at-requires
-    next-requires
+    (λ c. search needs)
+    (λ c κs. search needs)
+    (λ c κs. search needs)
     loop-less
     loop-again
     returns-2)

@@ -4,18 +4,9 @@ use Rattle.anchor.specs.Info.{publicKey}
 use Rattle.anchor.proofs.public_key.Statement.{statement}
 use Rattle.anchor.proofs.public_key.Tie as tie
 
-root-requires : tie.Need-root-requires
-root-requires c κs = search needs
-
-field-requires : tie.Need-field-requires
-field-requires c κs = search needs
-
-whole-requires : tie.Need-whole-requires
-whole-requires c κs = search needs
-
 returns : tie.Need-returns
 unfolding publicKey
 returns c = rw (c .whole .ensures, c .before .field .ensures, c .before .before .root .ensures)
 
 pub public-key-spec : {M : Type 1} → statement M
-public-key-spec = tie.close (tie.spec root-requires field-requires whole-requires returns)
+public-key-spec = tie.close (tie.spec (λ c κs. search needs) (λ c κs. search needs) (λ c κs. search needs) returns)

@@ -10,9 +10,6 @@ returns : tie.Need-returns
 unfolding roleOf
 returns c = rw (eq-eqb _ _ (c .if1 .taken), roleOf)
 
-has-constraints-requires : tie.Need-has-constraints-requires
-has-constraints-requires c κs = search needs
-
 returns-2 : tie.Need-returns-2
 unfolding roleOf
 returns-2 c = rw (ne-eqb _ _ (c .before .before .if1 .left), sym (c .before .has-constraints .ensures) ∙ c .if2 .taken, roleOf)
@@ -22,4 +19,4 @@ unfolding roleOf
 returns-3 c = rw (ne-eqb _ _ (c .before .before .if1 .left), sym (c .before .has-constraints .ensures) ∙ c .if2 .left, roleOf)
 
 pub role-spec : {M : Type 1} → statement M
-role-spec = tie.close (tie.spec returns has-constraints-requires returns-2 returns-3)
+role-spec = tie.close (tie.spec returns (λ c κs. search needs) returns-2 returns-3)

@@ -6,47 +6,17 @@ use borrow.Author.Needs.{needs}
 use Rattle.apply.proofs.add.Statement.{statement}
 use Rattle.apply.proofs.add.Tie as tie
 
-judged-requires : tie.Need-judged-requires
-judged-requires c κs = search needs
-
 returns : tie.Need-returns
 returns c = add-judged _ _ _ _ (c .before .before .judged .ensures) (c .if1 .taken)
-
-is-within-signer-requires : tie.Need-is-within-signer-requires
-is-within-signer-requires c κs = search needs
 
 returns-2 : tie.Need-returns-2
 returns-2 c = add-outside _ _ _ _ (c .before .before .before .before .judged .ensures) (c .before .before .if1 .left) (c .before .is-within-signer .ensures) (not-true _ (c .if2 .taken))
 
-slice-reshare-prefix-find : tie.Need-slice-reshare-prefix-find
-slice-reshare-prefix-find c = search needs
-
 slice-aggregate-find : tie.Need-slice-aggregate-find
 slice-aggregate-find c = sym (length-take-le _ _ (c .before .before .before .before .before .before .before .before .before .pre .0 .holds .inside))
 
-public-key-requires : tie.Need-public-key-requires
-public-key-requires c κs = search needs
-
-find-requires : tie.Need-find-requires
-find-requires c κs = search needs
-
-enum-known-p : tie.Need-enum-known-p
-enum-known-p c = search needs
-
-slice-reshare-prefix-info-at : tie.Need-slice-reshare-prefix-info-at
-slice-reshare-prefix-info-at c = search needs
-
 slice-aggregate-info-at : tie.Need-slice-aggregate-info-at
 slice-aggregate-info-at c = sym (length-take-le _ _ (c .before .before .before .before .before .before .before .before .before .before .before .before .before .before .before .pre .0 .holds .inside))
-
-info-at-requires : tie.Need-info-at-requires
-info-at-requires c κs = search needs
-
-equal-requires : tie.Need-equal-requires
-equal-requires c κs = search needs
-
-same-length : tie.Need-same-length
-same-length c = search needs
 
 returns-3 : tie.Need-returns-3
 returns-3 c =
@@ -54,29 +24,14 @@ returns-3 c =
     let s = k .before .before .before in
     add-same _ _ _ _ (s .before .before .before .before .judged .ensures) (s .before .before .if1 .left) (s .before .is-within-signer .ensures) (not-false _ (s .if2 .left)) (k .before .public-key .ensures) (k .find .ensures) (c .before .before .before .before .before .p .given .1) (c .before .before .info-at .ensures) (c .before .equal .ensures) (c .if3 .taken)
 
-same-length-2 : tie.Need-same-length-2
-same-length-2 c = search needs
-
 returns-4 : tie.Need-returns-4
 returns-4 c =
     let k = c .before .before .before .before .before .before .before in
     let s = k .before .before .before in
     add-key _ _ _ _ (s .before .before .before .before .judged .ensures) (s .before .before .if1 .left) (s .before .is-within-signer .ensures) (not-false _ (s .if2 .left)) (k .before .public-key .ensures) (k .find .ensures) (c .before .before .before .before .before .p .given .1) (c .before .before .info-at .ensures) (c .before .equal .ensures) (c .if3 .left)
 
-enum-told : tie.Need-enum-told
-enum-told c = search needs
-
-slice-reshare-prefix-anchor-count : tie.Need-slice-reshare-prefix-anchor-count
-slice-reshare-prefix-anchor-count c = search needs
-
 slice-aggregate-anchor-count : tie.Need-slice-aggregate-anchor-count
 slice-aggregate-anchor-count c = sym (length-take-le _ _ (c .before .before .before .before .before .before .before .before .before .before .before .before .before .before .pre .0 .holds .inside))
-
-anchor-count-requires : tie.Need-anchor-count-requires
-anchor-count-requires c κs = search needs
-
-same-length-3 : tie.Need-same-length-3
-same-length-3 c = search needs
 
 returns-5 : tie.Need-returns-5
 returns-5 c =
@@ -90,9 +45,6 @@ append-requires c κs =
     let s = k .before .before .before in
     add-grows _ _ _ _ (s .before .before .before .before .judged .ensures) (s .before .before .if1 .left) (s .before .is-within-signer .ensures) (not-false _ (s .if2 .left)) (k .before .public-key .ensures) (k .find .ensures) (c .before .before .before .before .enum-told .given .1) (c .before .before .anchor-count .ensures) (c .before .if4 .left) (c .before .before .before .before .before .before .before .before .before .before .before .before .before .before .before .before .before .pre .1) (c .before .before .before .before .before .before .before .before .before .before .before .before .before .before .before .before .before .pre .0)
 
-same-length-4 : tie.Need-same-length-4
-same-length-4 c = search needs
-
 returns-6 : tie.Need-returns-6
 returns-6 c =
     let k = c .before .before .before .before .before .before .before .before .before in
@@ -103,29 +55,29 @@ pub add-spec : {M : Type 1} → statement M
 add-spec =
     tie.close
     (tie.spec
-    judged-requires
+    (λ c κs. search needs)
     returns
-    is-within-signer-requires
+    (λ c κs. search needs)
     returns-2
-    slice-reshare-prefix-find
+    (λ c. search needs)
     slice-aggregate-find
-    public-key-requires
-    find-requires
-    enum-known-p
-    slice-reshare-prefix-info-at
+    (λ c κs. search needs)
+    (λ c κs. search needs)
+    (λ c. search needs)
+    (λ c. search needs)
     slice-aggregate-info-at
-    info-at-requires
-    equal-requires
-    same-length
+    (λ c κs. search needs)
+    (λ c κs. search needs)
+    (λ c. search needs)
     returns-3
-    same-length-2
+    (λ c. search needs)
     returns-4
-    enum-told
-    slice-reshare-prefix-anchor-count
+    (λ c. search needs)
+    (λ c. search needs)
     slice-aggregate-anchor-count
-    anchor-count-requires
-    same-length-3
+    (λ c κs. search needs)
+    (λ c. search needs)
     returns-5
     append-requires
-    same-length-4
+    (λ c. search needs)
     returns-6)

@@ -6,17 +6,8 @@ use borrow.Author.Needs.{needs}
 use Rattle.apply.proofs.add_name.Statement.{statement}
 use Rattle.apply.proofs.add_name.Tie as tie
 
-slice-reshare-prefix-has-name : tie.Need-slice-reshare-prefix-has-name
-slice-reshare-prefix-has-name c = search needs
-
 slice-aggregate-has-name : tie.Need-slice-aggregate-has-name
 slice-aggregate-has-name c = sym (length-take-le _ _ (c .before .before .before .pre .section .inside))
-
-has-name-requires : tie.Need-has-name-requires
-has-name-requires c κs = search needs
-
-same-length : tie.Need-same-length
-same-length c = search needs
 
 returns : tie.Need-returns
 returns c = add-present _ (c .before .before .before .before .before .pre) (c .before .has-name .ensures) (c .if1 .taken)
@@ -24,17 +15,11 @@ returns c = add-present _ (c .before .before .before .before .before .pre) (c .b
 slice-read-if2 : tie.Need-slice-read-if2
 slice-read-if2 c = omega (arith, c .before .before .before .before .before .before .pre .section .room)
 
-same-length-2 : tie.Need-same-length-2
-same-length-2 c = search needs
-
 returns-2 : tie.Need-returns-2
 returns-2 c = add-none _ (c .before .before .before .before .before .before .before .pre) (c .before .before .before .has-name .ensures) (c .before .before .if1 .left) (c .if2 .taken)
 
 join-requires : tie.Need-join-requires
 join-requires c κs = add-joinable (c .before .before .before .before .before .before .before .before .pre) (c .before .if2 .left)
-
-same-length-3 : tie.Need-same-length-3
-same-length-3 c = search needs
 
 returns-3 : tie.Need-returns-3
 returns-3 c = add-one _ (c .before .before .before .before .before .before .before .before .before .before .before .pre) (c .before .before .before .before .before .before .before .has-name .ensures) (c .before .before .before .before .before .before .if1 .left) (c .before .before .before .before .if2 .left) (c .before .before .join .ensures)
@@ -43,14 +28,14 @@ pub add-name-spec : {M : Type 1} → statement M
 add-name-spec =
     tie.close
     (tie.spec
-    slice-reshare-prefix-has-name
+    (λ c. search needs)
     slice-aggregate-has-name
-    has-name-requires
-    same-length
+    (λ c κs. search needs)
+    (λ c. search needs)
     returns
     slice-read-if2
-    same-length-2
+    (λ c. search needs)
     returns-2
     join-requires
-    same-length-3
+    (λ c. search needs)
     returns-3)

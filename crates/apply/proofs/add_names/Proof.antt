@@ -16,35 +16,17 @@ abbrev μ-loop : tie.MeasureT-loop
 slice-read-wide : tie.Need-slice-read-wide Inv-loop μ-loop
 slice-read-wide c = omega (arith, c .before .before .before .pre .section .room)
 
-wide-requires : tie.Need-wide-requires Inv-loop μ-loop
-wide-requires c κs = search needs
-
 loop-holds : tie.Need-loop-holds Inv-loop μ-loop
 loop-holds c = joining-start _ _ _ _ _ _ (c .before .before .before .before .pre) (c .wide .ensures)
 
-element-at-requires : tie.Need-element-at-requires Inv-loop μ-loop
-element-at-requires c κs = search needs
-
-contents-requires : tie.Need-contents-requires Inv-loop μ-loop
-contents-requires c κs = search needs
-
 add-name-requires : tie.Need-add-name-requires Inv-loop μ-loop
 add-name-requires c κs = joining-addable _ _ _ _ _ _ (c .before .before .before .before .loop .inv) (c .before .before .before .loop-test .taken) (c .before .before .element-at .ensures) (c .contents .ensures) (c .before .before .before .before .before .before .before .before .before .pre)
-
-enum-known-n : tie.Need-enum-known-n Inv-loop μ-loop
-enum-known-n c = search needs
-
-enum-told : tie.Need-enum-told Inv-loop μ-loop
-enum-told c = search needs
 
 same-length : tie.Need-same-length Inv-loop μ-loop
 same-length c = c .before .before .before .before .add-name .ensures .same-room ∙ c .before .before .before .before .before .before .before .before .before .loop .inv .same-room
 
 returns : tie.Need-returns Inv-loop μ-loop
 returns c = joining-full _ _ _ _ _ _ (c .before .before .before .before .before .before .before .before .before .loop .inv) (c .before .before .before .before .before .before .before .before .loop-test .taken) (c .before .before .before .before .before .before .before .element-at .ensures) (c .before .before .before .before .before .contents .ensures) (c .before .before .before .before .add-name .ensures) (c .enum-told .given .1)
-
-next-requires : tie.Need-next-requires Inv-loop μ-loop
-next-requires c κs = search needs
 
 loop-less : tie.Need-loop-less Inv-loop μ-loop
 loop-less c = oids-less _ _ _ (c .before .before .before .before .before .before .before .before .before .before .loop-test .taken) (c .before .before .before .before .before .before .before .before .before .element-at .ensures) (c .next .ensures)
@@ -65,16 +47,16 @@ add-names-spec =
     Inv-loop
     μ-loop
     slice-read-wide
-    wide-requires
+    (λ c κs. search needs)
     loop-holds
-    element-at-requires
-    contents-requires
+    (λ c κs. search needs)
+    (λ c κs. search needs)
     add-name-requires
-    enum-known-n
-    enum-told
+    (λ c. search needs)
+    (λ c. search needs)
     same-length
     returns
-    next-requires
+    (λ c κs. search needs)
     loop-less
     loop-again
     same-length-2

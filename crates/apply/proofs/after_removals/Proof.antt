@@ -9,12 +9,6 @@ use Rattle.apply.proofs.after_removals.Tie as tie
 slice-write-names : tie.Need-slice-write-names
 slice-write-names c = omega (arith, c .before .before .before .pre .1)
 
-clears-requires : tie.Need-clears-requires
-clears-requires c κs = search needs
-
-same-length : tie.Need-same-length
-same-length c = search needs
-
 returns : tie.Need-returns
 returns c = (search needs, removals-clear _ (c .before .before .before .before .before .args .removals) _ (c .before .clears .ensures) (c .if1 .taken) (c .before .before .before .before .before .args .names .now) (c .before .before .before .before .before .pre .1))
 
@@ -32,8 +26,8 @@ after-removals-spec =
     tie.close
     (tie.spec
     slice-write-names
-    clears-requires
-    same-length
+    (λ c κs. search needs)
+    (λ c. search needs)
     returns
     keep-names-requires
     same-length-2

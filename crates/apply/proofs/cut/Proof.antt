@@ -5,32 +5,14 @@ use borrow.Author.Needs.{needs}
 use Rattle.apply.proofs.cut.Statement.{statement}
 use Rattle.apply.proofs.cut.Tie as tie
 
-slice-reshare-prefix-record-place : tie.Need-slice-reshare-prefix-record-place
-slice-reshare-prefix-record-place c = search needs
-
 slice-aggregate-record-place : tie.Need-slice-aggregate-record-place
 slice-aggregate-record-place c = sym (length-take-le _ _ (c .before .before .pre .holds .inside))
-
-record-place-requires : tie.Need-record-place-requires
-record-place-requires c κs = search needs
-
-slice-reshare-prefix-record-end : tie.Need-slice-reshare-prefix-record-end
-slice-reshare-prefix-record-end c = search needs
 
 slice-aggregate-record-end : tie.Need-slice-aggregate-record-end
 slice-aggregate-record-end c = sym (length-take-le _ _ (c .before .before .before .before .pre .holds .inside))
 
-record-end-requires : tie.Need-record-end-requires
-record-end-requires c κs = search needs
-
-slice-reshare-prefix-first-record : tie.Need-slice-reshare-prefix-first-record
-slice-reshare-prefix-first-record c = search needs
-
 slice-aggregate-first-record : tie.Need-slice-aggregate-first-record
 slice-aggregate-first-record c = sym (length-take-le _ _ (c .before .before .before .before .before .before .pre .holds .inside))
-
-first-record-requires : tie.Need-first-record-requires
-first-record-requires c κs = search needs
 
 sub-count : tie.Need-sub-count
 sub-count c = cut-first (c .before .before .before .before .before .before .before .pre) (c .before .before .before .before .record-place .ensures) (c .before .before .record-end .ensures) (c .first-record .ensures)
@@ -43,9 +25,6 @@ remove-item-requires c κs =
     let k = cut-bounds (c .before .before .before .before .before .before .before .before .pre) (c .before .before .before .before .before .record-place .ensures) (c .before .before .before .record-end .ensures) (c .before .first-record .ensures) in
     (k .1, k .2, k .3, k .4)
 
-same-length : tie.Need-same-length
-same-length c = search needs
-
 returns : tie.Need-returns
 returns c = cut-done (c .before .before .before .before .before .before .before .before .before .before .before .pre) (c .before .before .before .before .before .before .before .before .record-place .ensures) (c .before .before .before .before .before .before .record-end .ensures) (c .before .before .before .before .first-record .ensures) (c .before .before .remove-item .ensures .0) (c .before .before .remove-item .ensures .1) (search needs)
 
@@ -53,17 +32,17 @@ pub cut-spec : {M : Type 1} → statement M
 cut-spec =
     tie.close
     (tie.spec
-    slice-reshare-prefix-record-place
+    (λ c. search needs)
     slice-aggregate-record-place
-    record-place-requires
-    slice-reshare-prefix-record-end
+    (λ c κs. search needs)
+    (λ c. search needs)
     slice-aggregate-record-end
-    record-end-requires
-    slice-reshare-prefix-first-record
+    (λ c κs. search needs)
+    (λ c. search needs)
     slice-aggregate-first-record
-    first-record-requires
+    (λ c κs. search needs)
     sub-count
     sub-remove-item
     remove-item-requires
-    same-length
+    (λ c. search needs)
     returns)

@@ -3,29 +3,14 @@ use borrow.Author.Needs.{needs}
 use Rattle.apply.proofs.enter.Statement.{statement}
 use Rattle.apply.proofs.enter.Tie as tie
 
-entry-of-requires : tie.Need-entry-of-requires
-entry-of-requires c κs = search needs
-
 step-requires : tie.Need-step-requires
 step-requires c κs = (scratch-of (c .before .before .before .before .before .pre .0), rw (c .entry-of .ensures) (c .before .before .before .before .before .pre .1))
-
-enum-known-done : tie.Need-enum-known-done
-enum-known-done c = search needs
-
-enum-told : tie.Need-enum-told
-enum-told c = search needs
 
 code-of-requires : tie.Need-code-of-requires
 code-of-requires c κs = enter-small _ _ _ _ _ (c .before .before .before .before .before .entry-of .ensures) (c .before .before .before .before .step .ensures) (c .before .before .before .before .before .before .before .before .before .before .pre .0)
 
-same-length : tie.Need-same-length
-same-length c = search needs
-
 returns : tie.Need-returns
 returns c = enter-failed _ _ _ _ _ (c .before .before .before .before .before .before .entry-of .ensures) (c .before .before .before .before .before .step .ensures) (c .before .enum-told .given .1) (c .code-of .ensures)
-
-same-length-2 : tie.Need-same-length-2
-same-length-2 c = search needs
 
 returns-2 : tie.Need-returns-2
 returns-2 c = enter-done _ _ _ _ _ (c .before .before .before .before .before .before .entry-of .ensures) (c .before .before .before .before .before .step .ensures) (c .before .done .given .1)
@@ -34,12 +19,12 @@ pub enter-spec : {M : Type 1} → statement M
 enter-spec =
     tie.close
     (tie.spec
-    entry-of-requires
+    (λ c κs. search needs)
     step-requires
-    enum-known-done
-    enum-told
+    (λ c. search needs)
+    (λ c. search needs)
     code-of-requires
-    same-length
+    (λ c. search needs)
     returns
-    same-length-2
+    (λ c. search needs)
     returns-2)

@@ -15,26 +15,17 @@ Inv-loop message image i work₀ len codes₀ stop at₀ end₀ old₀ n₀ work
 abbrev μ-loop : tie.MeasureT-loop
 μ-loop message image i work₀ len codes₀ stop at₀ end₀ old₀ n₀ work codes at end old n = stop - at
 
-updates-in-requires : tie.Need-updates-in-requires Inv-loop μ-loop
-updates-in-requires c κs = search needs
-
 slice-reshare-prefix-anchor-count : tie.Need-slice-reshare-prefix-anchor-count Inv-loop μ-loop
 slice-reshare-prefix-anchor-count c = c .before .before .before .before .before .pre .scratch .holds .inside
 
 slice-aggregate-anchor-count : tie.Need-slice-aggregate-anchor-count Inv-loop μ-loop
 slice-aggregate-anchor-count c = sym (length-take-le _ _ (c .before .before .before .before .before .before .pre .scratch .holds .inside))
 
-anchor-count-requires : tie.Need-anchor-count-requires Inv-loop μ-loop
-anchor-count-requires c κs = search needs
-
 sub-old : tie.Need-sub-old Inv-loop μ-loop
 sub-old c = entering-count (c .before .before .before .before .before .before .before .pre) (c .anchor-count .ensures)
 
 loop-holds : tie.Need-loop-holds Inv-loop μ-loop
 loop-holds c = entering-start _ _ _ _ _ _ (c .before .before .before .before .before .before .before .pre) (c .before .before .updates-in .ensures) (c .anchor-count .ensures)
-
-element-at-requires : tie.Need-element-at-requires Inv-loop μ-loop
-element-at-requires c κs = search needs
 
 enter-requires : tie.Need-enter-requires Inv-loop μ-loop
 enter-requires c κs = (entering-scratch _ _ _ _ _ _ _ (c .before .before .before .loop .inv) (c .before .before .before .before .before .before .before .before .before .before .before .pre .scratch), entering-adds _ _ _ _ _ _ _ (c .before .before .before .loop .inv) (c .before .before .loop-test .taken) (c .before .element-at .ensures))
@@ -44,9 +35,6 @@ slice-write-codes c = entering-room _ _ _ _ _ _ _ (c .before .before .before .be
 
 add-n : tie.Need-add-n Inv-loop μ-loop
 add-n c = omega (arith, entering-few _ _ _ _ _ _ _ (c .before .before .before .before .before .before .loop .inv) (c .before .before .before .before .before .loop-test .taken) (c .before .before .before .before .element-at .ensures))
-
-next-requires : tie.Need-next-requires Inv-loop μ-loop
-next-requires c κs = search needs
 
 loop-less : tie.Need-loop-less Inv-loop μ-loop
 loop-less c = entering-less _ _ _ _ _ _ _ (c .before .before .before .before .before .before .before .loop .inv) (c .before .before .before .before .before .before .loop-test .taken) (c .before .before .before .before .before .element-at .ensures) (c .before .before .before .enter .ensures) (c .next .ensures)
@@ -69,17 +57,17 @@ enter-all-spec =
     (tie.spec
     Inv-loop
     μ-loop
-    updates-in-requires
+    (λ c κs. search needs)
     slice-reshare-prefix-anchor-count
     slice-aggregate-anchor-count
-    anchor-count-requires
+    (λ c κs. search needs)
     sub-old
     loop-holds
-    element-at-requires
+    (λ c κs. search needs)
     enter-requires
     slice-write-codes
     add-n
-    next-requires
+    (λ c κs. search needs)
     loop-less
     loop-again
     same-length

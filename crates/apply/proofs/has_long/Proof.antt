@@ -20,17 +20,8 @@ abbrev μ-loop : tie.MeasureT-loop
 loop-holds : tie.Need-loop-holds Inv-loop μ-loop
 loop-holds c = refl
 
-element-at-requires : tie.Need-element-at-requires Inv-loop μ-loop
-element-at-requires c κs = search needs
-
-contents-requires : tie.Need-contents-requires Inv-loop μ-loop
-contents-requires c κs = search needs
-
 returns : tie.Need-returns Inv-loop μ-loop
 returns c = any-hit (λ c. ltb maxName (length c)) _ _ _ _ (c .before .before .before .before .loop .inv) (c .before .before .before .loop-test .taken) (c .before .before .element-at .ensures) (c .before .contents .ensures) (lt-ltb _ _ (c .if1 .taken))
-
-next-requires : tie.Need-next-requires Inv-loop μ-loop
-next-requires c κs = search needs
 
 loop-less : tie.Need-loop-less Inv-loop μ-loop
 loop-less c = oids-less _ _ _ (c .before .before .before .before .loop-test .taken) (c .before .before .before .element-at .ensures) (c .next .ensures)
@@ -48,10 +39,10 @@ has-long-spec =
     Inv-loop
     μ-loop
     loop-holds
-    element-at-requires
-    contents-requires
+    (λ c κs. search needs)
+    (λ c κs. search needs)
     returns
-    next-requires
+    (λ c κs. search needs)
     loop-less
     loop-again
     returns-2)

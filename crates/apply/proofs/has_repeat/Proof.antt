@@ -6,12 +6,9 @@ use Rattle.repeats.specs.Keys.{keyOf}
 use Rattle.apply.proofs.has_repeat.Statement.{statement}
 use Rattle.apply.proofs.has_repeat.Tie as tie
 
-are-distinct-requires : tie.Need-are-distinct-requires
-are-distinct-requires c κs = search needs
-
 returns : tie.Need-returns
 unfolding keyOf
 returns c = ap not (c .are-distinct .ensures)
 
 pub has-repeat-spec : {M : Type 1} → statement M
-has-repeat-spec = tie.close (tie.spec are-distinct-requires returns)
+has-repeat-spec = tie.close (tie.spec (λ c κs. search needs) returns)

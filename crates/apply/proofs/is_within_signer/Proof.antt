@@ -6,18 +6,6 @@ use Rattle.apply.proofs.is_within_signer.Tie as tie
 returns : tie.Need-returns
 returns c = within-apex _ _ (c .if1 .taken)
 
-info-at-requires : tie.Need-info-at-requires
-info-at-requires c κs = search needs
-
-constraints-value-requires : tie.Need-constraints-value-requires
-constraints-value-requires c κs = search needs
-
-constraints-value-requires-2 : tie.Need-constraints-value-requires-2
-constraints-value-requires-2 c κs = search needs
-
-is-within-requires : tie.Need-is-within-requires
-is-within-requires c κs = search needs
-
 returns-2 : tie.Need-returns-2
 returns-2 c =
     within-other _ _ (c .before .before .before .before .if1 .left) (c .before .before .before .info-at .ensures) (c .before .before .constraints-value .ensures) (c .before .constraints-value2 .ensures) (c .is-within .ensures)
@@ -27,8 +15,8 @@ is-within-signer-spec =
     tie.close
     (tie.spec
     returns
-    info-at-requires
-    constraints-value-requires
-    constraints-value-requires-2
-    is-within-requires
+    (λ c κs. search needs)
+    (λ c κs. search needs)
+    (λ c κs. search needs)
+    (λ c κs. search needs)
     returns-2)

@@ -4,9 +4,6 @@ use Rattle.repeats.specs.Keys.{keyOf}
 use Rattle.apply.proofs.keep_name.Statement.{statement}
 use Rattle.apply.proofs.keep_name.Tie as tie
 
-occurs-requires : tie.Need-occurs-requires
-occurs-requires c κs = search needs
-
 returns : tie.Need-returns
 unfolding keyOf
 returns c = keep-none _ _ (c .before .occurs .ensures) (c .if1 .taken)
@@ -14,12 +11,9 @@ returns c = keep-none _ _ (c .before .occurs .ensures) (c .if1 .taken)
 join-requires : tie.Need-join-requires
 join-requires c κs = c .before .before .before .before .before .before .pre
 
-same-length : tie.Need-same-length
-same-length c = search needs
-
 returns-2 : tie.Need-returns-2
 unfolding keyOf
 returns-2 c = keep-one _ _ (c .before .before .before .before .before .occurs .ensures) (c .before .before .before .before .if1 .left) (c .before .before .join .ensures)
 
 pub keep-name-spec : {M : Type 1} → statement M
-keep-name-spec = tie.close (tie.spec occurs-requires returns join-requires same-length returns-2)
+keep-name-spec = tie.close (tie.spec (λ c κs. search needs) returns join-requires (λ c. search needs) returns-2)

@@ -12,26 +12,11 @@ Inv-loop message removals image names₀ octets left₀ p₀ len₀ names left p
 abbrev μ-loop : tie.MeasureT-loop
 μ-loop message removals image names₀ octets left₀ p₀ len₀ names left p len = left
 
-community-octets-requires : tie.Need-community-octets-requires Inv-loop μ-loop
-community-octets-requires c κs = search needs
-
-community-count-requires : tie.Need-community-count-requires Inv-loop μ-loop
-community-count-requires c κs = search needs
-
 loop-holds : tie.Need-loop-holds Inv-loop μ-loop
 loop-holds c = keeping-start _ _ _ (c .before .before .before .before .before .pre .0) (c .before .before .before .before .before .pre .1) (c .before .community-octets .ensures) (c .community-count .ensures)
 
-name-at-requires : tie.Need-name-at-requires Inv-loop μ-loop
-name-at-requires c κs = search needs
-
 keep-name-requires : tie.Need-keep-name-requires Inv-loop μ-loop
 keep-name-requires c κs = keeping-joinable _ _ _ _ (c .before .before .before .loop .inv) (c .before .before .loop-test .taken) (c .name-at .ensures)
-
-name-end-requires : tie.Need-name-end-requires Inv-loop μ-loop
-name-end-requires c κs = search needs
-
-sub-left : tie.Need-sub-left Inv-loop μ-loop
-sub-left c = search needs
 
 loop-less : tie.Need-loop-less Inv-loop μ-loop
 loop-less c = omega (arith, c .before .before .before .before .before .before .loop-test .taken)
@@ -54,13 +39,13 @@ keep-names-spec =
     (tie.spec
     Inv-loop
     μ-loop
-    community-octets-requires
-    community-count-requires
+    (λ c κs. search needs)
+    (λ c κs. search needs)
     loop-holds
-    name-at-requires
+    (λ c κs. search needs)
     keep-name-requires
-    name-end-requires
-    sub-left
+    (λ c κs. search needs)
+    (λ c. search needs)
     loop-less
     loop-again
     same-length

@@ -13,26 +13,11 @@ slice-reshare-prefix-after-removals c = c .before .before .pre .scratch .holds .
 slice-aggregate-after-removals : tie.Need-slice-aggregate-after-removals
 slice-aggregate-after-removals c = sym (length-take-le _ _ (c .before .before .before .pre .scratch .holds .inside))
 
-slice-aggregate-after-removals-2 : tie.Need-slice-aggregate-after-removals-2
-slice-aggregate-after-removals-2 c = search needs
-
 after-removals-requires : tie.Need-after-removals-requires
 after-removals-requires c κs = (put-few (c .before .before .before .before .pre .scratch), lit≤ tt)
 
-slice-aggregate-add-names : tie.Need-slice-aggregate-add-names
-slice-aggregate-add-names c = search needs
-
 add-names-requires : tie.Need-add-names-requires
 add-names-requires c κs = put-addable _ (c .before .before .before .before .before .before .before .pre) (c .before .before .after-removals .ensures .1)
-
-enum-known-n : tie.Need-enum-known-n
-enum-known-n c = search needs
-
-enum-told : tie.Need-enum-told
-enum-told c = search needs
-
-same-length : tie.Need-same-length
-same-length c = search needs
 
 returns : tie.Need-returns
 returns c = put-full _ (c .before .before .before .before .before .before .before .before .before .before .before .pre) (c .before .before .before .before .before .before .after-removals .ensures .1) (c .before .before .before .add-names .ensures) (c .enum-told .given .1)
@@ -42,9 +27,6 @@ slice-reshare-prefix-community-place c = c .before .before .before .before .befo
 
 slice-aggregate-community-place : tie.Need-slice-aggregate-community-place
 slice-aggregate-community-place c = sym (length-take-le _ _ (c .before .before .before .before .before .before .before .before .before .before .before .before .before .pre .scratch .holds .inside))
-
-community-place-requires : tie.Need-community-place-requires
-community-place-requires c κs = search needs
 
 array-share-prefix-names : tie.Need-array-share-prefix-names
 array-share-prefix-names c = put-names _ (c .before .before .before .before .before .before .before .before .before .before .before .before .before .before .before .pre) (c .before .before .before .before .before .before .before .before .before .before .after-removals .ensures .1) (c .before .before .before .before .before .before .before .add-names .ensures) (c .before .before .before .before .n .given .1) (c .before .community-place .ensures)
@@ -58,9 +40,6 @@ copy-to-requires c κs = put-fits _ (c .before .before .before .before .before .
 add-t26 : tie.Need-add-t26
 add-t26 c = omega (arith, put-small _ (c .before .before .before .before .before .before .before .before .before .before .before .before .before .before .before .before .before .before .before .pre) (c .before .before .before .before .before .before .before .before .before .before .before .before .before .before .after-removals .ensures .1) (c .before .before .before .before .before .before .before .before .before .before .before .add-names .ensures) (c .before .before .before .before .before .before .before .before .n .given .1) (c .before .before .before .before .before .community-place .ensures))
 
-same-length-2 : tie.Need-same-length-2
-same-length-2 c = search needs
-
 returns-2 : tie.Need-returns-2
 returns-2 c = put-done _ (c .before .before .before .before .before .before .before .before .before .before .before .before .before .before .before .before .before .before .before .pre) (c .before .before .before .before .before .before .before .before .before .before .before .before .before .before .after-removals .ensures .1) (c .before .before .before .before .before .before .before .before .before .before .before .add-names .ensures) (c .before .before .before .before .before .before .before .before .n .given .1) (c .before .before .before .before .before .community-place .ensures) (c .before .before .copy-to .ensures)
 
@@ -70,20 +49,20 @@ put-communities-spec =
     (tie.spec
     slice-reshare-prefix-after-removals
     slice-aggregate-after-removals
-    slice-aggregate-after-removals-2
+    (λ c. search needs)
     after-removals-requires
-    slice-aggregate-add-names
+    (λ c. search needs)
     add-names-requires
-    enum-known-n
-    enum-told
-    same-length
+    (λ c. search needs)
+    (λ c. search needs)
+    (λ c. search needs)
     returns
     slice-reshare-prefix-community-place
     slice-aggregate-community-place
-    community-place-requires
+    (λ c κs. search needs)
     array-share-prefix-names
     slice-aggregate-copy-to
     copy-to-requires
     add-t26
-    same-length-2
+    (λ c. search needs)
     returns-2)

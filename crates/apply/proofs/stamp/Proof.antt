@@ -19,9 +19,6 @@ slice-reshare-prefix-anchor-count c = c .before .before .pre .0 .holds .holds .i
 slice-aggregate-anchor-count : tie.Need-slice-aggregate-anchor-count Inv-loop μ-loop
 slice-aggregate-anchor-count c = sym (length-take-le _ _ (c .before .before .before .pre .0 .holds .holds .inside))
 
-anchor-count-requires : tie.Need-anchor-count-requires Inv-loop μ-loop
-anchor-count-requires c κs = search needs
-
 add-j : tie.Need-add-j Inv-loop μ-loop
 add-j c = omega (arith, old-few (c .before .before .before .before .pre .0))
 
@@ -30,9 +27,6 @@ slice-reshare-prefix-record-place c = c .before .before .before .before .pre .0 
 
 slice-aggregate-record-place : tie.Need-slice-aggregate-record-place Inv-loop μ-loop
 slice-aggregate-record-place c = sym (length-take-le _ _ (c .before .before .before .before .before .pre .0 .holds .holds .inside))
-
-record-place-requires : tie.Need-record-place-requires Inv-loop μ-loop
-record-place-requires c κs = search needs
 
 loop-holds : tie.Need-loop-holds Inv-loop μ-loop
 loop-holds c = stamping-start _ _ _ _ _ _ (c .before .before .anchor-count .ensures) (c .record-place .ensures)
@@ -45,9 +39,6 @@ slice-reshare-prefix-record-end c = omega (arith, stamping-scratch _ _ _ _ _ _ (
 
 slice-aggregate-record-end : tie.Need-slice-aggregate-record-end Inv-loop μ-loop
 slice-aggregate-record-end c = sym (length-take-le _ _ (omega (arith, stamping-scratch _ _ _ _ _ _ (c .before .before .before .before .before .before .loop .inv) (c .before .before .before .before .before .before .before .before .before .before .before .before .before .pre .0), c .before .before .before .stamp-at .ensures .room)))
-
-record-end-requires : tie.Need-record-end-requires Inv-loop μ-loop
-record-end-requires c κs = search needs
 
 add-j-2 : tie.Need-add-j-2 Inv-loop μ-loop
 add-j-2 c = omega (arith, stamping-few _ _ _ _ _ _ (c .before .before .before .before .before .before .before .loop .inv) (c .before .before .before .before .before .before .before .before .before .before .before .before .before .before .pre .0) (omega (arith, c .before .before .before .before .before .before .loop-test .taken)))
@@ -72,16 +63,16 @@ stamp-spec =
     μ-loop
     slice-reshare-prefix-anchor-count
     slice-aggregate-anchor-count
-    anchor-count-requires
+    (λ c κs. search needs)
     add-j
     slice-reshare-prefix-record-place
     slice-aggregate-record-place
-    record-place-requires
+    (λ c κs. search needs)
     loop-holds
     stamp-at-requires
     slice-reshare-prefix-record-end
     slice-aggregate-record-end
-    record-end-requires
+    (λ c κs. search needs)
     add-j-2
     loop-less
     loop-again

@@ -11,33 +11,12 @@ Inv-loop message work₀ len old stop at₀ work at = Pairing message stop work�
 abbrev μ-loop : tie.MeasureT-loop
 μ-loop message work₀ len old stop at₀ work at = stop - at
 
-field-requires : tie.Need-field-requires Inv-loop μ-loop
-field-requires c κs = search needs
-
 loop-holds : tie.Need-loop-holds Inv-loop μ-loop
 loop-holds c =
     pairing-start _ _ _ _ _ (λ i. omega (arith, c .before .before .shared-slice-known .given i)) (c .before .before .before .pre) (c .field .ensures)
 
-element-at-requires : tie.Need-element-at-requires Inv-loop μ-loop
-element-at-requires c κs = search needs
-
-field-requires-2 : tie.Need-field-requires-2 Inv-loop μ-loop
-field-requires-2 c κs = search needs
-
-contents-requires : tie.Need-contents-requires Inv-loop μ-loop
-contents-requires c κs = search needs
-
-field-requires-3 : tie.Need-field-requires-3 Inv-loop μ-loop
-field-requires-3 c κs = search needs
-
-number-in-requires : tie.Need-number-in-requires Inv-loop μ-loop
-number-in-requires c κs = search needs
-
 stamp-requires : tie.Need-stamp-requires Inv-loop μ-loop
 stamp-requires c κs = (pairing-scratch _ _ _ _ _ _ (c .before .before .before .before .before .before .before .loop .inv) (c .before .before .before .before .before .before .before .before .before .before .before .pre .scratch), pairing-small _ _ _ _ _ _ (c .before .before .before .before .before .before .before .loop .inv) (c .before .before .before .before .before .before .loop-test .taken) (c .before .before .before .before .before .element-at .ensures) (c .before .before .field3 .ensures) (c .before .number-in .ensures))
-
-next-requires : tie.Need-next-requires Inv-loop μ-loop
-next-requires c κs = search needs
 
 loop-less : tie.Need-loop-less Inv-loop μ-loop
 loop-less c = pairing-less _ _ _ _ _ _ (c .before .before .before .before .before .before .before .before .before .before .before .loop .inv) (c .before .before .before .before .before .before .before .before .before .before .loop-test .taken) (c .before .before .before .before .before .before .before .before .before .element-at .ensures) (c .before .before .before .before .before .before .field3 .ensures) (c .before .before .before .before .before .number-in .ensures) (c .before .before .before .before .before .before .before .before .field2 .ensures) (c .before .before .before .before .before .before .before .contents .ensures) (c .before .before .before .stamp .ensures) (c .next .ensures)
@@ -57,15 +36,15 @@ stamp-all-spec =
     (tie.spec
     Inv-loop
     μ-loop
-    field-requires
+    (λ c κs. search needs)
     loop-holds
-    element-at-requires
-    field-requires-2
-    contents-requires
-    field-requires-3
-    number-in-requires
+    (λ c κs. search needs)
+    (λ c κs. search needs)
+    (λ c κs. search needs)
+    (λ c κs. search needs)
+    (λ c κs. search needs)
     stamp-requires
-    next-requires
+    (λ c κs. search needs)
     loop-less
     loop-again
     same-length

@@ -7,32 +7,14 @@ use borrow.Author.Needs.{needs}
 use Rattle.apply.proofs.stamp_at.Statement.{statement}
 use Rattle.apply.proofs.stamp_at.Tie as tie
 
-slice-reshare-prefix-record-at : tie.Need-slice-reshare-prefix-record-at
-slice-reshare-prefix-record-at c = search needs
-
 slice-aggregate-record-at : tie.Need-slice-aggregate-record-at
 slice-aggregate-record-at c = sym (length-take-le _ _ (c .before .before .before .pre .holds .inside))
-
-record-at-requires : tie.Need-record-at-requires
-record-at-requires c κs = search needs
-
-identifier-of-requires : tie.Need-identifier-of-requires
-identifier-of-requires c κs = search needs
-
-equal-requires : tie.Need-equal-requires
-equal-requires c κs = search needs
-
-same-length : tie.Need-same-length
-same-length c = search needs
 
 returns : tie.Need-returns
 returns c = stamp-other (c .before .before .before .before .before .before .before .pre) (c .before .before .identifier-of .ensures ∙ ap identifierIn (c .before .before .before .record-at .ensures)) _ (c .before .equal .ensures) (not-true _ (c .if1 .taken))
 
 set-number-requires : tie.Need-set-number-requires
 set-number-requires c κs = stamp-inside (c .before .before .before .before .before .before .before .before .pre)
-
-same-length-2 : tie.Need-same-length-2
-same-length-2 c = search needs
 
 returns-2 : tie.Need-returns-2
 returns-2 c = stamp-set (c .before .before .before .before .before .before .before .before .before .before .before .pre) (c .before .before .before .before .before .before .identifier-of .ensures ∙ ap identifierIn (c .before .before .before .before .before .before .before .record-at .ensures)) _ (c .before .before .before .before .before .equal .ensures) (not-false _ (c .before .before .before .before .if1 .left)) (c .before .before .set-number .ensures)
@@ -41,13 +23,13 @@ pub stamp-at-spec : {M : Type 1} → statement M
 stamp-at-spec =
     tie.close
     (tie.spec
-    slice-reshare-prefix-record-at
+    (λ c. search needs)
     slice-aggregate-record-at
-    record-at-requires
-    identifier-of-requires
-    equal-requires
-    same-length
+    (λ c κs. search needs)
+    (λ c κs. search needs)
+    (λ c κs. search needs)
+    (λ c. search needs)
     returns
     set-number-requires
-    same-length-2
+    (λ c. search needs)
     returns-2)

@@ -12,29 +12,11 @@ returns c = sym (der-bad _ _ _ (not-true _ (c .if1 .taken)))
 returns-2 : tie.Need-returns-2
 returns-2 c = sym (der-deep _ _ _ (c .if2 .taken))
 
-is-constructed-requires : tie.Need-is-constructed-requires
-is-constructed-requires c κs = search needs
-
-contents-requires : tie.Need-contents-requires
-contents-requires c κs = search needs
-
-contents-ok-requires : tie.Need-contents-ok-requires
-contents-ok-requires c κs = search needs
-
-hold-requires : tie.Need-hold-requires
-hold-requires c κs = search needs
-
 returns-3 : tie.Need-returns-3
 returns-3 c =
     let k = sym (c .before .before .before .before .is-constructed .ensures) ∙ not-true _ (c .before .before .before .if3 .taken) in
     der-held _ _ _ (c .before .before .before .before .before .if2 .left) (not-false _ (c .before .before .before .before .before .before .if1 .left)) k
     (c .hold .ensures) (c .before .contents-ok .ensures) (c .before .before .contents .ensures)
-
-sub-check-run : tie.Need-sub-check-run
-sub-check-run c = search needs
-
-check-run-requires : tie.Need-check-run-requires
-check-run-requires c κs = search needs
 
 returns-4 : tie.Need-returns-4
 returns-4 c =
@@ -47,11 +29,11 @@ check-element-spec =
     (tie.spec
     returns
     returns-2
-    is-constructed-requires
-    contents-requires
-    contents-ok-requires
-    hold-requires
+    (λ c κs. search needs)
+    (λ c κs. search needs)
+    (λ c κs. search needs)
+    (λ c κs. search needs)
     returns-3
-    sub-check-run
-    check-run-requires
+    (λ c. search needs)
+    (λ c κs. search needs)
     returns-4)

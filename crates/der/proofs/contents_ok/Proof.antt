@@ -6,29 +6,17 @@ use Rattle.der.proofs.Leaves.{contents-free}
 use Rattle.der.proofs.contents_ok.Statement.{statement}
 use Rattle.der.proofs.contents_ok.Tie as tie
 
-is-boolean-requires : tie.Need-is-boolean-requires
-is-boolean-requires c κs = search needs
-
 returns : tie.Need-returns
 unfolding contentsOk
 returns c = rw (c .before .if1 .taken) (c .is-boolean .ensures)
-
-is-integer-requires : tie.Need-is-integer-requires
-is-integer-requires c κs = search needs
 
 returns-2 : tie.Need-returns-2
 unfolding contentsOk
 returns-2 c = rw (c .before .if2 .taken) (c .is-integer .ensures)
 
-is-integer-requires-2 : tie.Need-is-integer-requires-2
-is-integer-requires-2 c κs = search needs
-
 returns-3 : tie.Need-returns-3
 unfolding contentsOk
 returns-3 c = rw (c .before .if3 .taken) (c .is-integer2 .ensures)
-
-is-oid-requires : tie.Need-is-oid-requires
-is-oid-requires c κs = search needs
 
 returns-4 : tie.Need-returns-4
 unfolding contentsOk
@@ -41,12 +29,12 @@ pub contents-ok-spec : {M : Type 1} → statement M
 contents-ok-spec =
     tie.close
     (tie.spec
-    is-boolean-requires
+    (λ c κs. search needs)
     returns
-    is-integer-requires
+    (λ c κs. search needs)
     returns-2
-    is-integer-requires-2
+    (λ c κs. search needs)
     returns-3
-    is-oid-requires
+    (λ c κs. search needs)
     returns-4
     returns-5)

@@ -8,52 +8,25 @@ use Rattle.der.proofs.Header.{Header, element-absent, element-is, beyon
 use Rattle.der.proofs.element_at.Statement.{statement}
 use Rattle.der.proofs.element_at.Tie as tie
 
-no-element-requires : tie.Need-no-element-requires
-no-element-requires c κs = search needs
-
 returns : tie.Need-returns
 returns c =
     let a = c .before .before .before .args in
     c .no-element .ensures ∙ sym (element-absent (a .s .now) (a .at) (a .stop) (λ h. omega arith))
-
-no-element-requires-2 : tie.Need-no-element-requires-2
-no-element-requires-2 c κs = search needs
 
 returns-2 : tie.Need-returns-2
 returns-2 c =
     let a = c .before .before .before .before .args in
     c .no-element2 .ensures ∙ sym (element-absent (a .s .now) (a .at) (a .stop) (λ h. omega arith))
 
-no-element-requires-3 : tie.Need-no-element-requires-3
-no-element-requires-3 c κs = search needs
-
 returns-3 : tie.Need-returns-3
 returns-3 c =
     let a = c .before .before .before .before .before .args in
     c .no-element3 .ensures ∙ sym (element-absent (a .s .now) (a .at) (a .stop) (λ h. omega arith))
 
-shared-slice-read-tag : tie.Need-shared-slice-read-tag
-shared-slice-read-tag c = search needs
-
-no-element-requires-4 : tie.Need-no-element-requires-4
-no-element-requires-4 c κs = search needs
-
 returns-4 : tie.Need-returns-4
 returns-4 c =
     let a = c .before .before .before .before .before .before .before .args in
     c .no-element4 .ensures ∙ sym (element-absent (a .s .now) (a .at) (a .stop) (λ h. h .low-tag (c .before .if4 .taken)))
-
-length-at-requires : tie.Need-length-at-requires
-length-at-requires c κs = search needs
-
-enum-known-start : tie.Need-enum-known-start
-enum-known-start c = search needs
-
-enum-told : tie.Need-enum-told
-enum-told c = search needs
-
-no-element-requires-5 : tie.Need-no-element-requires-5
-no-element-requires-5 c κs = search needs
 
 returns-5 : tie.Need-returns-5
 returns-5 c =
@@ -66,9 +39,6 @@ is-shortest-requires c κs =
     let a = c .before .before .before .before .before .before .before .before .before .before .args in
     let l = of-ends (a .s .now) (a .at) (a .stop) (sym (c .before .before .before .length-at .ensures) ∙ c .before .start .given .1) in
     (omega arith, l .1 .0)
-
-no-element-requires-6 : tie.Need-no-element-requires-6
-no-element-requires-6 c κs = search needs
 
 returns-6 : tie.Need-returns-6
 returns-6 c =
@@ -102,22 +72,22 @@ pub element-at-spec : {M : Type 1} → statement M
 element-at-spec =
     tie.close
     (tie.spec
-    no-element-requires
+    (λ c κs. search needs)
     returns
-    no-element-requires-2
+    (λ c κs. search needs)
     returns-2
-    no-element-requires-3
+    (λ c κs. search needs)
     returns-3
-    shared-slice-read-tag
-    no-element-requires-4
+    (λ c. search needs)
+    (λ c κs. search needs)
     returns-4
-    length-at-requires
-    enum-known-start
-    enum-told
-    no-element-requires-5
+    (λ c κs. search needs)
+    (λ c. search needs)
+    (λ c. search needs)
+    (λ c κs. search needs)
     returns-5
     is-shortest-requires
-    no-element-requires-6
+    (λ c κs. search needs)
     returns-6
     add-t7
     returns-7)

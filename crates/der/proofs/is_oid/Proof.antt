@@ -23,21 +23,12 @@ returns c = sym (oid-none _ (c .if1 .taken))
 loop-holds : tie.Need-loop-holds Inv-loop μ-loop
 loop-holds c = let o = c .before .before .args .o .now in (omega arith, arcs-end o (length o) (c .if1 .left) refl)
 
-sub-i : tie.Need-sub-i Inv-loop μ-loop
-sub-i c = search needs
-
-is-padding-requires : tie.Need-is-padding-requires Inv-loop μ-loop
-is-padding-requires c κs = search needs
-
 returns-2 : tie.Need-returns-2 Inv-loop μ-loop
 returns-2 c =
     let o = c .before .before .before .before .before .before .args .o .now in
     let l = c .before .before .before .loop in
     let p = sym (c .before .is-padding .ensures) ∙ c .if2 .taken in
     sym (arcs-broken o (c .before .before .before .before .if1 .left) (l .i - 1) (omega arith) (arcs-padded o (l .i - 1) (omega arith) p))
-
-loop-less : tie.Need-loop-less Inv-loop μ-loop
-loop-less c = search needs
 
 loop-again : tie.Need-loop-again Inv-loop μ-loop
 loop-again c =
@@ -46,12 +37,6 @@ loop-again c =
     let p = sym (c .before .is-padding .ensures) ∙ c .if2 .left in
     let q : l .i - 1 + 1 ≡ l .i = omega arith in
     (omega arith, arcs-turn o (l .i - 1) (omega arith) p ∙ ap (λ (k : ℕ). arcsOk (arcBegins o k) (drop k o)) q ∙ l .inv .1)
-
-sub-result : tie.Need-sub-result Inv-loop μ-loop
-sub-result c = search needs
-
-shared-slice-read-result : tie.Need-shared-slice-read-result Inv-loop μ-loop
-shared-slice-read-result c = search needs
 
 returns-3 : tie.Need-returns-3 Inv-loop μ-loop
 returns-3 c =
@@ -68,11 +53,11 @@ is-oid-spec =
     μ-loop
     returns
     loop-holds
-    sub-i
-    is-padding-requires
+    (λ c. search needs)
+    (λ c κs. search needs)
     returns-2
-    loop-less
+    (λ c. search needs)
     loop-again
-    sub-result
-    shared-slice-read-result
+    (λ c. search needs)
+    (λ c. search needs)
     returns-3)

@@ -8,9 +8,6 @@ use Rattle.der.proofs.Bools.{and-true, and-false}
 use Rattle.der.proofs.is_padding.Statement.{statement}
 use Rattle.der.proofs.is_padding.Tie as tie
 
-shared-slice-read-if1 : tie.Need-shared-slice-read-if1
-shared-slice-read-if1 c = search needs
-
 returns : tie.Need-returns
 returns c =
     let a = c .before .before .args in
@@ -20,12 +17,6 @@ returns-2 : tie.Need-returns-2
 returns-2 c =
     let a = c .before .before .before .args in
     rw (eq-eqb (octet (a .o .now) (a .i)) 128 (c .before .if1 .left), eq-eqb (a .i) 0 (c .if2 .taken))
-
-sub-result : tie.Need-sub-result
-sub-result c = search needs
-
-shared-slice-read-result : tie.Need-shared-slice-read-result
-shared-slice-read-result c = search needs
 
 returns-3 : tie.Need-returns-3
 returns-3 c =
@@ -37,9 +28,9 @@ pub is-padding-spec : {M : Type 1} → statement M
 is-padding-spec =
     tie.close
     (tie.spec
-    shared-slice-read-if1
+    (λ c. search needs)
     returns
     returns-2
-    sub-result
-    shared-slice-read-result
+    (λ c. search needs)
+    (λ c. search needs)
     returns-3)

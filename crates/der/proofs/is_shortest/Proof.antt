@@ -6,23 +6,11 @@ use Rattle.der.proofs.Header.{short-form, indefinite-form, padded-form,
 use Rattle.der.proofs.is_shortest.Statement.{statement}
 use Rattle.der.proofs.is_shortest.Tie as tie
 
-add-first : tie.Need-add-first
-add-first c = search needs
-
-shared-slice-read-first : tie.Need-shared-slice-read-first
-shared-slice-read-first c = search needs
-
 returns : tie.Need-returns
 returns c = sym (short-form _ _ (c .if1 .taken))
 
 returns-2 : tie.Need-returns-2
 returns-2 c = sym (indefinite-form _ _ (c .if2 .taken))
-
-add-if3 : tie.Need-add-if3
-add-if3 c = search needs
-
-shared-slice-read-if3 : tie.Need-shared-slice-read-if3
-shared-slice-read-if3 c = search needs
 
 returns-3 : tie.Need-returns-3
 returns-3 c = sym (padded-form _ _ (c .before .before .before .if1 .left) (c .if3 .taken))
@@ -34,11 +22,11 @@ pub is-shortest-spec : {M : Type 1} → statement M
 is-shortest-spec =
     tie.close
     (tie.spec
-    add-first
-    shared-slice-read-first
+    (λ c. search needs)
+    (λ c. search needs)
     returns
     returns-2
-    add-if3
-    shared-slice-read-if3
+    (λ c. search needs)
+    (λ c. search needs)
     returns-3
     returns-4)

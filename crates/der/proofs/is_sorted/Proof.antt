@@ -11,15 +11,6 @@ returns c =
     let a = c .before .before .args in
     sym (sorted-other (a .tag) (a .s .now) (a .former) (a .e) (c .if1 .taken))
 
-whole-requires : tie.Need-whole-requires
-whole-requires c κs = search needs
-
-whole-requires-2 : tie.Need-whole-requires-2
-whole-requires-2 c κs = search needs
-
-in-order-requires : tie.Need-in-order-requires
-in-order-requires c κs = search needs
-
 returns-2 : tie.Need-returns-2
 returns-2 c =
     let a = c .before .before .before .before .before .args in
@@ -29,4 +20,4 @@ returns-2 c =
 
 pub is-sorted-spec : {M : Type 1} → statement M
 is-sorted-spec =
-    tie.close (tie.spec returns whole-requires whole-requires-2 in-order-requires returns-2)
+    tie.close (tie.spec returns (λ c κs. search needs) (λ c κs. search needs) (λ c κs. search needs) returns-2)

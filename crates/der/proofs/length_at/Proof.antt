@@ -15,23 +15,8 @@ Inv-loop s at stop start₀ n₀ i₀ first₀ start n i first = ReadTo s at sto
 abbrev μ-loop : tie.MeasureT-loop
 μ-loop s at stop start₀ n₀ i₀ first₀ start n i first = stop - i
 
-add-start : tie.Need-add-start Inv-loop μ-loop
-add-start c = search needs
-
-add-i : tie.Need-add-i Inv-loop μ-loop
-add-i c = search needs
-
 loop-holds : tie.Need-loop-holds Inv-loop μ-loop
 loop-holds c = read-none _ _ _ (c .before .pre .0)
-
-shared-slice-read-wide : tie.Need-shared-slice-read-wide Inv-loop μ-loop
-shared-slice-read-wide c = search needs
-
-wide-requires : tie.Need-wide-requires Inv-loop μ-loop
-wide-requires c κs = search needs
-
-sub-if3 : tie.Need-sub-if3 Inv-loop μ-loop
-sub-if3 c = search needs
 
 returns : tie.Need-returns Inv-loop μ-loop
 returns c =
@@ -41,28 +26,13 @@ returns c =
     let x = ap (octet (b .args .s .now)) (sym (z .0)) ∙ sym (c .before .before .before .wide .ensures) in
     sym (length-beyond (b .args .s .now) (b .args .at) (b .args .stop) (omega (arith, x, z .1 .0)))
 
-add-start-2 : tie.Need-add-start-2 Inv-loop μ-loop
-add-start-2 c = search needs
-
-sub-if4 : tie.Need-sub-if4 Inv-loop μ-loop
-sub-if4 c = search needs
-
 returns-2 : tie.Need-returns-2 Inv-loop μ-loop
 returns-2 c =
     let b = c .before .before .before .before .before .before .before in
     sym (length-beyond _ _ _ (read-beyond _ _ _ (b .pre .1) (c .before .before .before .before .before .loop .inv) (c .before .if1 .left) (c .before .before .before .before .loop-test .taken) (c .if4 .taken)))
 
-mul-n : tie.Need-mul-n Inv-loop μ-loop
-mul-n c = search needs
-
 add-n : tie.Need-add-n Inv-loop μ-loop
 add-n c = omega (arith, c .before .before .wide .ensures, c .before .before .before .shared-slice-known2 .given (c .before .before .before .before .before .loop .i))
-
-add-i-2 : tie.Need-add-i-2 Inv-loop μ-loop
-add-i-2 c = search needs
-
-loop-less : tie.Need-loop-less Inv-loop μ-loop
-loop-less c = search needs
 
 loop-again : tie.Need-loop-again Inv-loop μ-loop
 loop-again c =
@@ -91,9 +61,6 @@ loop-again c =
     (λ w. rw (w .2, w .3, x) (read-digit (b .args .s .now) (b .args .at) (b .args .stop) (b .pre .1) (l .inv) (w .0 .left) (c .before .before .before .loop-test .taken))))
     (c .if1 .came)
 
-sub-if5 : tie.Need-sub-if5 Inv-loop μ-loop
-sub-if5 c = search needs
-
 returns-3 : tie.Need-returns-3 Inv-loop μ-loop
 returns-3 c =
     let b = c .before .before .before .before in
@@ -112,21 +79,21 @@ length-at-spec =
     (tie.spec
     Inv-loop
     μ-loop
-    add-start
-    add-i
+    (λ c. search needs)
+    (λ c. search needs)
     loop-holds
-    shared-slice-read-wide
-    wide-requires
-    sub-if3
+    (λ c. search needs)
+    (λ c κs. search needs)
+    (λ c. search needs)
     returns
-    add-start-2
-    sub-if4
+    (λ c. search needs)
+    (λ c. search needs)
     returns-2
-    mul-n
+    (λ c. search needs)
     add-n
-    add-i-2
-    loop-less
+    (λ c. search needs)
+    (λ c. search needs)
     loop-again
-    sub-if5
+    (λ c. search needs)
     returns-3
     returns-4)

@@ -9,12 +9,6 @@ use Rattle.der.specs.Write.{lengthOctets}
 use Rattle.der.proofs.put_header.Statement.{statement}
 use Rattle.der.proofs.put_header.Tie as tie
 
-slice-write-buf : tie.Need-slice-write-buf
-slice-write-buf c = search needs
-
-add-put-length : tie.Need-add-put-length
-add-put-length c = search needs
-
 put-length-requires : tie.Need-put-length-requires
 put-length-requires c κs = simp length-set (omega arith)
 
@@ -35,4 +29,4 @@ returns c =
 
 pub put-header-spec : {M : Type 1} → statement M
 put-header-spec =
-    tie.close (tie.spec slice-write-buf add-put-length put-length-requires same-length returns)
+    tie.close (tie.spec (λ c. search needs) (λ c. search needs) put-length-requires same-length returns)

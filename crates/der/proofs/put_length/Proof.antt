@@ -21,17 +21,11 @@ slice-write-buf c = omega (arith, ap length (short-octets (c .before .before .ar
 add-result : tie.Need-add-result
 add-result c = omega (arith, ap length (short-octets (c .before .before .args .n) (c .if1 .taken)))
 
-same-length : tie.Need-same-length
-same-length c = search needs
-
 returns : tie.Need-returns
 returns c =
     let a = c .before .before .args in
     let o = short-octets (a .n) (c .if1 .taken) in
     (omega (arith, ap length o), rw o (sym (placed-one (a .buf .now) (a .at) (a .n) (omega (arith, ap length o)))))
-
-digit-count-requires : tie.Need-digit-count-requires
-digit-count-requires c κs = search needs
 
 add-buf : tie.Need-add-buf
 add-buf c = omega (arith, c .digit-count .ensures, length-digits 8 (c .before .before .before .args .n))
@@ -92,9 +86,9 @@ put-length-spec =
     cast-buf
     slice-write-buf
     add-result
-    same-length
+    (λ c. search needs)
     returns
-    digit-count-requires
+    (λ c κs. search needs)
     add-buf
     cast-buf-2
     slice-write-buf-2

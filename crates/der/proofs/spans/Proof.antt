@@ -10,15 +10,6 @@ use Rattle.der.proofs.spans.Tie as tie
 returns : tie.Need-returns
 returns c = sym (spans-none _ _ _ _ _ (c .if1 .taken))
 
-element-at-requires : tie.Need-element-at-requires
-element-at-requires c κs = search needs
-
-check-element-requires : tie.Need-check-element-requires
-check-element-requires c κs = search needs
-
-enum-known-o : tie.Need-enum-known-o
-enum-known-o c = search needs
-
 returns-2 : tie.Need-returns-2
 returns-2 c =
     let a = c .before .before .before .before .before .before .before .args in
@@ -26,9 +17,6 @@ returns-2 c =
     sym
     (spans-one (a .depth) (a .s .now) (a .at) (a .stop) (a .outer) (c .before .before .before .before .before .if1 .left) q
     ∙ then-breaks _ (sym (c .before .before .before .check-element .ensures) ∙ c .before .o .given .1))
-
-enum-told : tie.Need-enum-told
-enum-told c = search needs
 
 returns-3 : tie.Need-returns-3
 returns-3 c =
@@ -53,10 +41,10 @@ spans-spec =
     tie.close
     (tie.spec
     returns
-    element-at-requires
-    check-element-requires
-    enum-known-o
+    (λ c κs. search needs)
+    (λ c κs. search needs)
+    (λ c. search needs)
     returns-2
-    enum-told
+    (λ c. search needs)
     returns-3
     returns-4)

@@ -18,9 +18,6 @@ abbrev μ-loop : tie.MeasureT-loop
 loop-holds : tie.Need-loop-holds Inv-loop μ-loop
 loop-holds c = refl
 
-element-at-requires : tie.Need-element-at-requires Inv-loop μ-loop
-element-at-requires c κs = search needs
-
 returns : tie.Need-returns Inv-loop μ-loop
 returns c =
     let a = c .before .before .before .before .before .before .before .args in
@@ -28,9 +25,6 @@ returns c =
     let q = c .before .before .before .element-at .ensures in
     let z = bad-tag (a .s .now) (l .i) (a .stop) q (not-true _ (c .before .if1 .taken)) in
     sym (with-tag-found (a .tag) (a .s .now) (l .i) (a .stop) q (c .before .before .before .before .loop-test .taken) (z ∙ sym (c .if2 .taken))) ∙ l .inv
-
-no-element-requires : tie.Need-no-element-requires Inv-loop μ-loop
-no-element-requires c κs = search needs
 
 returns-2 : tie.Need-returns-2 Inv-loop μ-loop
 returns-2 c =
@@ -63,9 +57,6 @@ loop-again c =
     let q = c .before .before .before .before .element-at .ensures in
     sym (with-tag-turn (a .tag) (a .s .now) (l .i) (a .stop) q (not-false _ (c .before .before .if1 .left)) (c .if3 .left)) ∙ l .inv
 
-no-element-requires-2 : tie.Need-no-element-requires-2 Inv-loop μ-loop
-no-element-requires-2 c κs = search needs
-
 returns-4 : tie.Need-returns-4 Inv-loop μ-loop
 returns-4 c =
     let a = c .before .before .before .before .args in
@@ -79,12 +70,12 @@ with-tag-spec =
     Inv-loop
     μ-loop
     loop-holds
-    element-at-requires
+    (λ c κs. search needs)
     returns
-    no-element-requires
+    (λ c κs. search needs)
     returns-2
     returns-3
     loop-less
     loop-again
-    no-element-requires-2
+    (λ c κs. search needs)
     returns-4)

@@ -9,21 +9,6 @@ use borrow.Author.Needs.{needs}
 use Rattle.edit.proofs.append_anchor.Statement.{statement}
 use Rattle.edit.proofs.append_anchor.Tie as tie
 
-add-n : tie.Need-add-n
-add-n c = search needs
-
-make-room-requires : tie.Need-make-room-requires
-make-room-requires c κs = search needs
-
-put-record-requires : tie.Need-put-record-requires
-put-record-requires c κs = search needs
-
-add-result : tie.Need-add-result
-add-result c = search needs
-
-same-length : tie.Need-same-length
-same-length c = search needs
-
 returns : tie.Need-returns
 returns c =
     let a = c .before .before .before .before .before .before .before .before .before .before .args in
@@ -37,4 +22,4 @@ returns c =
 pub append-anchor-spec : {M : Type 1} → statement M
 append-anchor-spec =
     tie.close
-    (tie.spec add-n make-room-requires put-record-requires add-result same-length returns)
+    (tie.spec (λ c. search needs) (λ c κs. search needs) (λ c κs. search needs) (λ c. search needs) (λ c. search needs) returns)

@@ -9,21 +9,6 @@ use borrow.Author.Needs.{needs}
 use Rattle.edit.proofs.append_community.Statement.{statement}
 use Rattle.edit.proofs.append_community.Tie as tie
 
-add-n : tie.Need-add-n
-add-n c = search needs
-
-make-room-requires : tie.Need-make-room-requires
-make-room-requires c κs = search needs
-
-put-name-requires : tie.Need-put-name-requires
-put-name-requires c κs = search needs
-
-add-result : tie.Need-add-result
-add-result c = search needs
-
-same-length : tie.Need-same-length
-same-length c = search needs
-
 returns : tie.Need-returns
 returns c =
     let a = c .before .before .before .before .before .before .before .before .before .before .args in
@@ -36,4 +21,4 @@ returns c =
 
 pub append-community-spec : {M : Type 1} → statement M
 append-community-spec =
-    tie.close (tie.spec add-n make-room-requires put-name-requires add-result same-length returns)
+    tie.close (tie.spec (λ c. search needs) (λ c κs. search needs) (λ c κs. search needs) (λ c. search needs) (λ c. search needs) returns)

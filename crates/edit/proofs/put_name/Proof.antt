@@ -8,15 +8,6 @@ use borrow.Author.Needs.{needs}
 use Rattle.edit.proofs.put_name.Statement.{statement}
 use Rattle.edit.proofs.put_name.Tie as tie
 
-cast-buf : tie.Need-cast-buf
-cast-buf c = search needs
-
-slice-write-buf : tie.Need-slice-write-buf
-slice-write-buf c = search needs
-
-add-copy-to : tie.Need-add-copy-to
-add-copy-to c = search needs
-
 copy-to-requires : tie.Need-copy-to-requires
 copy-to-requires c κs =
     simp length-set (omega arith)
@@ -36,4 +27,4 @@ returns c =
 
 pub put-name-spec : {M : Type 1} → statement M
 put-name-spec =
-    tie.close (tie.spec cast-buf slice-write-buf add-copy-to copy-to-requires same-length returns)
+    tie.close (tie.spec (λ c. search needs) (λ c. search needs) (λ c. search needs) copy-to-requires same-length returns)

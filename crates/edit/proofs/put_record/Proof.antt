@@ -11,24 +11,6 @@ use borrow.Author.Needs.{needs}
 use Rattle.edit.proofs.put_record.Statement.{statement}
 use Rattle.edit.proofs.put_record.Tie as tie
 
-put-be-requires : tie.Need-put-be-requires
-put-be-requires c κs = search needs
-
-add-put-be : tie.Need-add-put-be
-add-put-be c = search needs
-
-put-be-requires-2 : tie.Need-put-be-requires-2
-put-be-requires-2 c κs = search needs
-
-add-copy-to : tie.Need-add-copy-to
-add-copy-to c = search needs
-
-copy-to-requires : tie.Need-copy-to-requires
-copy-to-requires c κs = search needs
-
-same-length : tie.Need-same-length
-same-length c = search needs
-
 returns : tie.Need-returns
 returns c =
     let third = c .before .before in
@@ -45,10 +27,10 @@ pub put-record-spec : {M : Type 1} → statement M
 put-record-spec =
     tie.close
     (tie.spec
-    put-be-requires
-    add-put-be
-    put-be-requires-2
-    add-copy-to
-    copy-to-requires
-    same-length
+    (λ c κs. search needs)
+    (λ c. search needs)
+    (λ c κs. search needs)
+    (λ c. search needs)
+    (λ c κs. search needs)
+    (λ c. search needs)
     returns)

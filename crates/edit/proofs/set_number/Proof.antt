@@ -11,12 +11,6 @@ use borrow.Author.Needs.{needs}
 use Rattle.edit.proofs.set_number.Statement.{statement}
 use Rattle.edit.proofs.set_number.Tie as tie
 
-slice-write-buf : tie.Need-slice-write-buf
-slice-write-buf c = search needs
-
-add-put-be : tie.Need-add-put-be
-add-put-be c = search needs
-
 put-be-requires : tie.Need-put-be-requires
 put-be-requires c κs =
     simp length-set (omega arith)
@@ -39,4 +33,4 @@ returns c =
 
 pub set-number-spec : {M : Type 1} → statement M
 set-number-spec =
-    tie.close (tie.spec slice-write-buf add-put-be put-be-requires same-length returns)
+    tie.close (tie.spec (λ c. search needs) (λ c. search needs) put-be-requires same-length returns)

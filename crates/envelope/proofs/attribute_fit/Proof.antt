@@ -5,18 +5,9 @@ use Rattle.envelope.proofs.Attributes.{attribute-fit}
 use Rattle.envelope.proofs.attribute_fit.Statement.{statement}
 use Rattle.envelope.proofs.attribute_fit.Tie as tie
 
-attr-type-requires : tie.Need-attr-type-requires
-attr-type-requires c κs = search needs
-
-form-of-requires : tie.Need-form-of-requires
-form-of-requires c κs = search needs
-
-attribute-fits-requires : tie.Need-attribute-fits-requires
-attribute-fits-requires c κs = search needs
-
 returns : tie.Need-returns
 returns c = c .attribute-fits .ensures ∙ attribute-fit _ _ _ _ _ (c .before .form-of .ensures _) (c .before .before .attr-type .ensures)
 
 pub attribute-fit-spec : {M : Type 1} → statement M
 attribute-fit-spec =
-    tie.close (tie.spec attr-type-requires form-of-requires attribute-fits-requires returns)
+    tie.close (tie.spec (λ c κs. search needs) (λ c κs. search needs) (λ c κs. search needs) returns)

@@ -10,28 +10,13 @@ use Rattle.envelope.proofs.attributes_fit.Tie as tie
 returns : tie.Need-returns
 returns c = sym (attributes-absent _ _ _ _ (not-true _ (c .if1 .taken)))
 
-new-until-requires : tie.Need-new-until-requires
-new-until-requires c κs = search needs
-
 each-attribute-requires : tie.Need-each-attribute-requires
 each-attribute-requires c κs = c .new-until .ensures
-
-enum-known-o : tie.Need-enum-known-o
-enum-known-o c = search needs
 
 returns-2 : tie.Need-returns-2
 returns-2 c =
     let c3 = c .before .before .before in
     sym (attributes-run _ _ _ _ (not-false _ (c3 .before .before .if1 .left)) ∙ then-breaks _ (sym (c3 .each-attribute .ensures) ∙ c .before .o .given .1))
-
-enum-told : tie.Need-enum-told
-enum-told c = search needs
-
-slice-aggregate-has-type : tie.Need-slice-aggregate-has-type
-slice-aggregate-has-type c = search needs
-
-has-type-requires : tie.Need-has-type-requires
-has-type-requires c κs = search needs
 
 returns-3 : tie.Need-returns-3
 returns-3 c =
@@ -42,12 +27,6 @@ returns-3 c =
     (attributes-run _ _ _ _ (not-false _ (c7 .if1 .left))
     ∙ then-fits _ (sym (c3 .before .before .each-attribute .ensures) ∙ c3 .enum-told .given .1)
     ∙ held-breaks _ (types-first (a .s .now) (a .attributes) (c .before .has-type .ensures) (not-true _ (c .if2 .taken))))
-
-slice-aggregate-has-type-2 : tie.Need-slice-aggregate-has-type-2
-slice-aggregate-has-type-2 c = search needs
-
-has-type-requires-2 : tie.Need-has-type-requires-2
-has-type-requires-2 c κs = search needs
 
 returns-4 : tie.Need-returns-4
 returns-4 c =
@@ -77,15 +56,15 @@ attributes-fit-spec =
     tie.close
     (tie.spec
     returns
-    new-until-requires
+    (λ c κs. search needs)
     each-attribute-requires
-    enum-known-o
+    (λ c. search needs)
     returns-2
-    enum-told
-    slice-aggregate-has-type
-    has-type-requires
+    (λ c. search needs)
+    (λ c. search needs)
+    (λ c κs. search needs)
     returns-3
-    slice-aggregate-has-type-2
-    has-type-requires-2
+    (λ c. search needs)
+    (λ c κs. search needs)
     returns-4
     returns-5)

@@ -4,15 +4,9 @@ use Rattle.envelope.specs.Parts.{contentInfo, contentType}
 use Rattle.envelope.proofs.content_type.Statement.{statement}
 use Rattle.envelope.proofs.content_type.Tie as tie
 
-element-at-requires : tie.Need-element-at-requires
-element-at-requires c κs = search needs
-
-field-requires : tie.Need-field-requires
-field-requires c κs = search needs
-
 returns : tie.Need-returns
 unfolding contentInfo contentType
 returns c = rw (← c .before .element-at .ensures) (c .field .ensures)
 
 pub content-type-spec : {M : Type 1} → statement M
-content-type-spec = tie.close (tie.spec element-at-requires field-requires returns)
+content-type-spec = tie.close (tie.spec (λ c κs. search needs) (λ c κs. search needs) returns)

@@ -22,9 +22,6 @@ Inv-loop about s attributes until stop at₀ e₀ former₀ at e former =
 abbrev μ-loop : tie.MeasureT-loop
 μ-loop about s attributes until stop at₀ e₀ former₀ at e former = attributes .stop - at
 
-element-at-requires : tie.Need-element-at-requires Inv-loop μ-loop
-element-at-requires c κs = search needs
-
 loop-holds : tie.Need-loop-holds Inv-loop μ-loop
 loop-holds c =
     let c3 = c .before .before .before in
@@ -45,12 +42,6 @@ returns c =
     sym (each-broken j (a .s .now) (l .at) (a .attributes .stop) (l .former) (l .inv .0) (c .before .before .loop-test .taken) (not-true _ (c .if1 .taken)))
     ∙ l .inv .2
 
-attribute-fit-requires : tie.Need-attribute-fit-requires Inv-loop μ-loop
-attribute-fit-requires c κs = search needs
-
-enum-known-o : tie.Need-enum-known-o Inv-loop μ-loop
-enum-known-o c = search needs
-
 returns-2 : tie.Need-returns-2 Inv-loop μ-loop
 returns-2 c =
     let a = c .before .before .before .before .before .before .before .before .before .before .before .args in
@@ -59,9 +50,6 @@ returns-2 c =
     let g = not-false _ (c .before .before .before .before .if1 .left) in
     let b = sym (c .before .before .before .attribute-fit .ensures) ∙ c .before .o .given .1 in
     sym (each-breaks j (a .s .now) (l .at) (a .attributes .stop) (l .former) (l .inv .0) g (then-breaks _ b)) ∙ l .inv .2
-
-enum-told : tie.Need-enum-told Inv-loop μ-loop
-enum-told c = search needs
 
 is-in-place-requires : tie.Need-is-in-place-requires Inv-loop μ-loop
 is-in-place-requires c κs =
@@ -81,9 +69,6 @@ returns-3 c =
     let f = sym (c4 .attribute-fit .ensures) ∙ c .before .before .enum-told .given .1 in
     let b = sym (c .before .is-in-place .ensures) ∙ not-true _ (c .if2 .taken) in
     sym (each-breaks j (a .s .now) (l .at) (a .attributes .stop) (l .former) (l .inv .0) g (then-fits _ f ∙ held-breaks _ b)) ∙ l .inv .2
-
-element-at-requires-2 : tie.Need-element-at-requires-2 Inv-loop μ-loop
-element-at-requires-2 c κs = search needs
 
 loop-less : tie.Need-loop-less Inv-loop μ-loop
 loop-less c =
@@ -125,16 +110,16 @@ each-attribute-spec =
     (tie.spec
     Inv-loop
     μ-loop
-    element-at-requires
+    (λ c κs. search needs)
     loop-holds
     returns
-    attribute-fit-requires
-    enum-known-o
+    (λ c κs. search needs)
+    (λ c. search needs)
     returns-2
-    enum-told
+    (λ c. search needs)
     is-in-place-requires
     returns-3
-    element-at-requires-2
+    (λ c κs. search needs)
     loop-less
     loop-again
     returns-4)

@@ -6,20 +6,8 @@ use Rattle.envelope.proofs.Attributes.{contentType-octets, messageDiges
 use Rattle.envelope.proofs.form_of.Statement.{statement}
 use Rattle.envelope.proofs.form_of.Tie as tie
 
-slice-aggregate-equal : tie.Need-slice-aggregate-equal
-slice-aggregate-equal c = search needs
-
-equal-requires : tie.Need-equal-requires
-equal-requires c κs = search needs
-
 returns : tie.Need-returns
 returns c = form-content _ (ap (same _) contentType-octets ∙ sym (c .before .equal .ensures) ∙ c .if1 .taken)
-
-slice-aggregate-equal-2 : tie.Need-slice-aggregate-equal-2
-slice-aggregate-equal-2 c = search needs
-
-equal-requires-2 : tie.Need-equal-requires-2
-equal-requires-2 c κs = search needs
 
 returns-2 : tie.Need-returns-2
 returns-2 c =
@@ -39,10 +27,10 @@ pub form-of-spec : {M : Type 1} → statement M
 form-of-spec =
     tie.close
     (tie.spec
-    slice-aggregate-equal
-    equal-requires
+    (λ c. search needs)
+    (λ c κs. search needs)
     returns
-    slice-aggregate-equal-2
-    equal-requires-2
+    (λ c. search needs)
+    (λ c κs. search needs)
     returns-2
     returns-3)

@@ -22,15 +22,6 @@ abbrev μ-loop : tie.MeasureT-loop
 loop-holds : tie.Need-loop-holds Inv-loop μ-loop
 loop-holds c = refl
 
-element-at-requires : tie.Need-element-at-requires Inv-loop μ-loop
-element-at-requires c κs = search needs
-
-attr-type-requires : tie.Need-attr-type-requires Inv-loop μ-loop
-attr-type-requires c κs = search needs
-
-equal-requires : tie.Need-equal-requires Inv-loop μ-loop
-equal-requires c κs = search needs
-
 returns : tie.Need-returns Inv-loop μ-loop
 returns c =
     let c3 = c .before .before .before in
@@ -69,9 +60,9 @@ has-type-spec =
     Inv-loop
     μ-loop
     loop-holds
-    element-at-requires
-    attr-type-requires
-    equal-requires
+    (λ c κs. search needs)
+    (λ c κs. search needs)
+    (λ c κs. search needs)
     returns
     returns-2
     loop-less

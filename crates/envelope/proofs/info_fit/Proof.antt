@@ -5,12 +5,9 @@ use Rattle.envelope.specs.Rows.{row-2}
 use Rattle.envelope.proofs.info_fit.Statement.{statement}
 use Rattle.envelope.proofs.info_fit.Tie as tie
 
-fits-requires : tie.Need-fits-requires
-fits-requires c κs = search needs
-
 returns : tie.Need-returns
 unfolding row-2 formSyntax
 returns c = c .fits2 .ensures
 
 pub info-fit-spec : {M : Type 1} → statement M
-info-fit-spec = tie.close (tie.spec fits-requires returns)
+info-fit-spec = tie.close (tie.spec (λ c κs. search needs) returns)

@@ -8,18 +8,6 @@ use Rattle.envelope.proofs.Answers.{bare-unknown, bare-breaks, bare-bot
 use Rattle.envelope.proofs.is_bare.Statement.{statement}
 use Rattle.envelope.proofs.is_bare.Tie as tie
 
-content-type-requires : tie.Need-content-type-requires
-content-type-requires c κs = search needs
-
-contents-requires : tie.Need-contents-requires
-contents-requires c κs = search needs
-
-recognise-requires : tie.Need-recognise-requires
-recognise-requires c κs = search needs
-
-enum-told : tie.Need-enum-told
-enum-told c = search needs
-
 returns : tie.Need-returns
 returns c =
     let c3 = c .before .before .before in
@@ -28,23 +16,11 @@ returns c =
     let q = sym (c3 .contents .ensures ∙ ap (contents (a .s .now)) (c3 .before .content-type .ensures)) in
     bare-unknown (a .s .now) (ap recognised q ∙ sym (c .before .before .recognise .ensures) ∙ c .enum-told .given .1)
 
-enum-told-2 : tie.Need-enum-told-2
-enum-told-2 c = search needs
-
-fits-requires : tie.Need-fits-requires
-fits-requires c κs = search needs
-
-enum-told-3 : tie.Need-enum-told-3
-enum-told-3 c = search needs
-
 returns-2 : tie.Need-returns-2
 unfolding formSyntax
 returns-2 c =
     let c9 = c .before .before .before .before .before .before .before .before .before in
     bare-breaks (c9 .args .s .now) (sym (c .before .before .fits2 .ensures) ∙ c .enum-told3 .given .1)
-
-enum-told-4 : tie.Need-enum-told-4
-enum-told-4 c = search needs
 
 returns-3 : tie.Need-returns-3
 unfolding formSyntax
@@ -61,14 +37,14 @@ pub is-bare-spec : {M : Type 1} → statement M
 is-bare-spec =
     tie.close
     (tie.spec
-    content-type-requires
-    contents-requires
-    recognise-requires
-    enum-told
+    (λ c κs. search needs)
+    (λ c κs. search needs)
+    (λ c κs. search needs)
+    (λ c. search needs)
     returns
-    enum-told-2
-    fits-requires
-    enum-told-3
+    (λ c. search needs)
+    (λ c κs. search needs)
+    (λ c. search needs)
     returns-2
-    enum-told-4
+    (λ c. search needs)
     returns-3)

@@ -6,15 +6,6 @@ use Rattle.envelope.proofs.Attributes.{placed-not, placed-if}
 use Rattle.envelope.proofs.is_in_place.Statement.{statement}
 use Rattle.envelope.proofs.is_in_place.Tie as tie
 
-whole-requires : tie.Need-whole-requires
-whole-requires c κs = search needs
-
-whole-requires-2 : tie.Need-whole-requires-2
-whole-requires-2 c κs = search needs
-
-in-order-requires : tie.Need-in-order-requires
-in-order-requires c κs = search needs
-
 returns : tie.Need-returns
 returns c =
     let a = c .before .before .before .before .before .args in
@@ -32,4 +23,4 @@ returns-2 c =
 pub is-in-place-spec : {M : Type 1} → statement M
 is-in-place-spec =
     tie.close
-    (tie.spec whole-requires whole-requires-2 in-order-requires returns is-new-requires returns-2)
+    (tie.spec (λ c κs. search needs) (λ c κs. search needs) (λ c κs. search needs) returns is-new-requires returns-2)

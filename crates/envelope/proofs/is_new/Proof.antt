@@ -9,16 +9,10 @@ use Rattle.envelope.proofs.is_new.Tie as tie
 returns : tie.Need-returns
 returns c = sym (ap not (c .before .before .before .pre (c .if1 .taken)))
 
-attr-type-requires : tie.Need-attr-type-requires
-attr-type-requires c κs = search needs
-
-has-type-requires : tie.Need-has-type-requires
-has-type-requires c κs = search needs
-
 returns-2 : tie.Need-returns-2
 returns-2 c =
     let a = c .before .before .before .before .before .args in
     ap not (repeated-if (a .s .now) (a .attributes) (a .e) (c .before .attr-type .ensures) (c .has-type .ensures))
 
 pub is-new-spec : {M : Type 1} → statement M
-is-new-spec = tie.close (tie.spec returns attr-type-requires has-type-requires returns-2)
+is-new-spec = tie.close (tie.spec returns (λ c κs. search needs) (λ c κs. search needs) returns-2)

@@ -35,123 +35,6 @@ infos-at c =
 signer-at : (c : tie.After-field6) → c .field6 .result ≡ signerInfo (c .before .before .before .before .before .before .before .before .before .before .args .s .now)
 signer-at c = signerInfo-is _ (infos-at (c .before)) (c .field6 .ensures)
 
-no-element-requires : tie.Need-no-element-requires
-no-element-requires c κs = search needs
-
-element-at-requires : tie.Need-element-at-requires
-element-at-requires c κs = search needs
-
-field-requires : tie.Need-field-requires
-field-requires c κs = search needs
-
-field-requires-2 : tie.Need-field-requires-2
-field-requires-2 c κs = search needs
-
-field-requires-3 : tie.Need-field-requires-3
-field-requires-3 c κs = search needs
-
-field-requires-4 : tie.Need-field-requires-4
-field-requires-4 c κs = search needs
-
-field-requires-5 : tie.Need-field-requires-5
-field-requires-5 c κs = search needs
-
-field-behind-requires : tie.Need-field-behind-requires
-field-behind-requires c κs = search needs
-
-field-requires-6 : tie.Need-field-requires-6
-field-requires-6 c κs = search needs
-
-field-requires-7 : tie.Need-field-requires-7
-field-requires-7 c κs = search needs
-
-contents-requires : tie.Need-contents-requires
-contents-requires c κs = search needs
-
-recognise-requires : tie.Need-recognise-requires
-recognise-requires c κs = search needs
-
-der-fit-requires : tie.Need-der-fit-requires
-der-fit-requires c κs = search needs
-
-or-at-requires : tie.Need-or-at-requires
-or-at-requires c κs = search needs
-
-is-bare-requires : tie.Need-is-bare-requires
-is-bare-requires c κs = search needs
-
-content-type-requires : tie.Need-content-type-requires
-content-type-requires c κs = search needs
-
-or-if-requires : tie.Need-or-if-requires
-or-if-requires c κs = search needs
-
-info-fit-requires : tie.Need-info-fit-requires
-info-fit-requires c κs = search needs
-
-or-at-requires-2 : tie.Need-or-at-requires-2
-or-at-requires-2 c κs = search needs
-
-signed-data-fit-requires : tie.Need-signed-data-fit-requires
-signed-data-fit-requires c κs = search needs
-
-or-at-requires-3 : tie.Need-or-at-requires-3
-or-at-requires-3 c κs = search needs
-
-encap-fit-requires : tie.Need-encap-fit-requires
-encap-fit-requires c κs = search needs
-
-or-at-requires-4 : tie.Need-or-at-requires-4
-or-at-requires-4 c κs = search needs
-
-or-if-requires-2 : tie.Need-or-if-requires-2
-or-if-requires-2 c κs = search needs
-
-is-unknown-requires : tie.Need-is-unknown-requires
-is-unknown-requires c κs = search needs
-
-or-if-requires-3 : tie.Need-or-if-requires-3
-or-if-requires-3 c κs = search needs
-
-has-certificates-requires : tie.Need-has-certificates-requires
-has-certificates-requires c κs = search needs
-
-or-if-requires-4 : tie.Need-or-if-requires-4
-or-if-requires-4 c κs = search needs
-
-signers-fit-requires : tie.Need-signers-fit-requires
-signers-fit-requires c κs = search needs
-
-or-at-requires-5 : tie.Need-or-at-requires-5
-or-at-requires-5 c κs = search needs
-
-attrs-fit-requires : tie.Need-attrs-fit-requires
-attrs-fit-requires c κs = search needs
-
-or-at-requires-6 : tie.Need-or-at-requires-6
-or-at-requires-6 c κs = search needs
-
-is-absent-requires : tie.Need-is-absent-requires
-is-absent-requires c κs = search needs
-
-or-at-requires-7 : tie.Need-or-at-requires-7
-or-at-requires-7 c κs = search needs
-
-kind-of-requires : tie.Need-kind-of-requires
-kind-of-requires c κs = search needs
-
-field-requires-8 : tie.Need-field-requires-8
-field-requires-8 c κs = search needs
-
-field-requires-9 : tie.Need-field-requires-9
-field-requires-9 c κs = search needs
-
-field-requires-10 : tie.Need-field-requires-10
-field-requires-10 c κs = search needs
-
-opened-requires : tie.Need-opened-requires
-opened-requires c κs = search needs
-
 -- the rows in their order, each where the code has come upon it
 returns : tie.Need-returns
 unfolding envelope
@@ -201,43 +84,43 @@ pub open-spec : {M : Type 1} → statement M
 open-spec =
     tie.close
     (tie.spec
-    no-element-requires
-    element-at-requires
-    field-requires
-    field-requires-2
-    field-requires-3
-    field-requires-4
-    field-requires-5
-    field-behind-requires
-    field-requires-6
-    field-requires-7
-    contents-requires
-    recognise-requires
-    der-fit-requires
-    or-at-requires
-    is-bare-requires
-    content-type-requires
-    or-if-requires
-    info-fit-requires
-    or-at-requires-2
-    signed-data-fit-requires
-    or-at-requires-3
-    encap-fit-requires
-    or-at-requires-4
-    or-if-requires-2
-    is-unknown-requires
-    or-if-requires-3
-    has-certificates-requires
-    or-if-requires-4
-    signers-fit-requires
-    or-at-requires-5
-    attrs-fit-requires
-    or-at-requires-6
-    is-absent-requires
-    or-at-requires-7
-    kind-of-requires
-    field-requires-8
-    field-requires-9
-    field-requires-10
-    opened-requires
+    (λ c κs. search needs)
+    (λ c κs. search needs)
+    (λ c κs. search needs)
+    (λ c κs. search needs)
+    (λ c κs. search needs)
+    (λ c κs. search needs)
+    (λ c κs. search needs)
+    (λ c κs. search needs)
+    (λ c κs. search needs)
+    (λ c κs. search needs)
+    (λ c κs. search needs)
+    (λ c κs. search needs)
+    (λ c κs. search needs)
+    (λ c κs. search needs)
+    (λ c κs. search needs)
+    (λ c κs. search needs)
+    (λ c κs. search needs)
+    (λ c κs. search needs)
+    (λ c κs. search needs)
+    (λ c κs. search needs)
+    (λ c κs. search needs)
+    (λ c κs. search needs)
+    (λ c κs. search needs)
+    (λ c κs. search needs)
+    (λ c κs. search needs)
+    (λ c κs. search needs)
+    (λ c κs. search needs)
+    (λ c κs. search needs)
+    (λ c κs. search needs)
+    (λ c κs. search needs)
+    (λ c κs. search needs)
+    (λ c κs. search needs)
+    (λ c κs. search needs)
+    (λ c κs. search needs)
+    (λ c κs. search needs)
+    (λ c κs. search needs)
+    (λ c κs. search needs)
+    (λ c κs. search needs)
+    (λ c κs. search needs)
     returns)

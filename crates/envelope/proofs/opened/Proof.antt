@@ -4,12 +4,6 @@ use Rattle.envelope.specs.Given.{givenFirst}
 use Rattle.envelope.proofs.opened.Statement.{statement}
 use Rattle.envelope.proofs.opened.Tie as tie
 
-enum-known-given : tie.Need-enum-known-given
-enum-known-given c = search needs
-
-enum-told : tie.Need-enum-told
-enum-told c = search needs
-
 returns : tie.Need-returns
 unfolding givenFirst
 returns c = rw (c .before .given .given .1)
@@ -19,4 +13,4 @@ unfolding givenFirst
 returns-2 c = rw (c .enum-told .given .1)
 
 pub opened-spec : {M : Type 1} → statement M
-opened-spec = tie.close (tie.spec enum-known-given enum-told returns returns-2)
+opened-spec = tie.close (tie.spec (λ c. search needs) (λ c. search needs) returns returns-2)

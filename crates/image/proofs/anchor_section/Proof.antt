@@ -18,9 +18,6 @@ returns c =
     let s = a .image .now in
     sym (ap behind (anchors-short s (a .p) (c .if1 .taken)))
 
-octet-at-requires : tie.Need-octet-at-requires
-octet-at-requires c κs = search needs
-
 returns-2 : tie.Need-returns-2
 returns-2 c =
     let a = c .before .before .before .before .args in
@@ -39,18 +36,6 @@ returns-3 c =
     let room = c .before .before .before .if1 .left in
     sym (anchors-some s (a .p) room n count (omega arith) ∙ section-over readAnchor maxAnchors apart s (a .p) room n count (c .if3 .taken))
 
-add-anchors-stop : tie.Need-add-anchors-stop
-add-anchors-stop c = search needs
-
-anchors-stop-requires : tie.Need-anchors-stop-requires
-anchors-stop-requires c κs = search needs
-
-enum-known-e : tie.Need-enum-known-e
-enum-known-e c = search needs
-
-enum-told : tie.Need-enum-told
-enum-told c = search needs
-
 returns-4 : tie.Need-returns-4
 returns-4 c =
     let a = c .before .before .before .before .before .before .before .before .args in
@@ -62,12 +47,6 @@ returns-4 c =
     (anchors-some s (a .p) room n count (omega arith)
     ∙ section-broken readAnchor maxAnchors apart s (a .p) room n count (c .before .before .before .if3 .left)
     (sym (ap (restAt s) (c .enum-told .given .1)) ∙ c .before .before .anchors-stop .ensures))
-
-add-keys-differ : tie.Need-add-keys-differ
-add-keys-differ c = search needs
-
-keys-differ-requires : tie.Need-keys-differ-requires
-keys-differ-requires c κs = search needs
 
 returns-5 : tie.Need-returns-5
 returns-5 c =
@@ -100,15 +79,15 @@ anchor-section-spec =
     tie.close
     (tie.spec
     returns
-    octet-at-requires
+    (λ c κs. search needs)
     returns-2
     returns-3
-    add-anchors-stop
-    anchors-stop-requires
-    enum-known-e
-    enum-told
+    (λ c. search needs)
+    (λ c κs. search needs)
+    (λ c. search needs)
+    (λ c. search needs)
     returns-4
-    add-keys-differ
-    keys-differ-requires
+    (λ c. search needs)
+    (λ c κs. search needs)
     returns-5
     returns-6)

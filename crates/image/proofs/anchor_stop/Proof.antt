@@ -20,20 +20,11 @@ returns c =
     let s = a .s .now in
     sym (ap behind (anchor-short s (a .p) (omega arith)))
 
-sub-if2 : tie.Need-sub-if2
-sub-if2 c = search needs
-
 returns-2 : tie.Need-returns-2
 returns-2 c =
     let a = c .before .before .before .args in
     let s = a .s .now in
     sym (ap behind (anchor-short s (a .p) (omega arith)))
-
-add-get-be : tie.Need-add-get-be
-add-get-be c = search needs
-
-get-be-requires : tie.Need-get-be-requires
-get-be-requires c κs = search needs
 
 returns-3 : tie.Need-returns-3
 returns-3 c =
@@ -51,12 +42,6 @@ returns-4 c =
     let size = c .before .before .get-be .ensures .0 in
     sym (ap behind (anchor-outside s (a .p) n (omega arith) (sym size) (λ l m. omega arith)))
 
-sub-if5 : tie.Need-sub-if5
-sub-if5 c = search needs
-
-sub-if5-2 : tie.Need-sub-if5-2
-sub-if5-2 c = search needs
-
 returns-5 : tie.Need-returns-5
 returns-5 c =
     let a = c .before .before .before .before .before .before .before .args in
@@ -64,18 +49,6 @@ returns-5 c =
     let n = c .before .before .before .get-be .result in
     let size = c .before .before .before .get-be .ensures .0 in
     sym (ap behind (anchor-cut s (a .p) n (omega arith) (sym size) (omega arith)))
-
-shared-slice-read-is-number : tie.Need-shared-slice-read-is-number
-shared-slice-read-is-number c = search needs
-
-add-get-be-2 : tie.Need-add-get-be-2
-add-get-be-2 c = search needs
-
-get-be-requires-2 : tie.Need-get-be-requires-2
-get-be-requires-2 c κs = search needs
-
-is-number-requires : tie.Need-is-number-requires
-is-number-requires c κs = search needs
 
 returns-6 : tie.Need-returns-6
 returns-6 c =
@@ -86,24 +59,6 @@ returns-6 c =
     let num = ap (numberOk (octet s (a .p))) (sym (c .before .before .get-be2 .ensures .0)) ∙ sym (c .before .is-number .ensures)
     ∙ not-true _ (c .if6 .taken) in
     sym (ap behind (anchor-number s (a .p) n (omega arith) size (omega arith) (omega arith) (omega arith) num))
-
-add-a : tie.Need-add-a
-add-a c = search needs
-
-add-e : tie.Need-add-e
-add-e c = search needs
-
-sub-is-storable : tie.Need-sub-is-storable
-sub-is-storable c = search needs
-
-part-is-storable-start : tie.Need-part-is-storable-start
-part-is-storable-start c = search needs
-
-part-is-storable-end : tie.Need-part-is-storable-end
-part-is-storable-end c = search needs
-
-is-storable-requires : tie.Need-is-storable-requires
-is-storable-requires c κs = search needs
 
 returns-7 : tie.Need-returns-7
 returns-7 c =
@@ -134,25 +89,25 @@ anchor-stop-spec =
     tie.close
     (tie.spec
     returns
-    sub-if2
+    (λ c. search needs)
     returns-2
-    add-get-be
-    get-be-requires
+    (λ c. search needs)
+    (λ c κs. search needs)
     returns-3
     returns-4
-    sub-if5
-    sub-if5-2
+    (λ c. search needs)
+    (λ c. search needs)
     returns-5
-    shared-slice-read-is-number
-    add-get-be-2
-    get-be-requires-2
-    is-number-requires
+    (λ c. search needs)
+    (λ c. search needs)
+    (λ c κs. search needs)
+    (λ c κs. search needs)
     returns-6
-    add-a
-    add-e
-    sub-is-storable
-    part-is-storable-start
-    part-is-storable-end
-    is-storable-requires
+    (λ c. search needs)
+    (λ c. search needs)
+    (λ c. search needs)
+    (λ c. search needs)
+    (λ c. search needs)
+    (λ c κs. search needs)
     returns-7
     returns-8)

@@ -17,15 +17,6 @@ abbrev μ-loop : tie.MeasureT-loop
 loop-holds : tie.Need-loop-holds Inv-loop μ-loop
 loop-holds c = refl
 
-anchor-stop-requires : tie.Need-anchor-stop-requires Inv-loop μ-loop
-anchor-stop-requires c κs = search needs
-
-enum-known-e : tie.Need-enum-known-e Inv-loop μ-loop
-enum-known-e c = search needs
-
-enum-told : tie.Need-enum-told Inv-loop μ-loop
-enum-told c = search needs
-
 returns : tie.Need-returns Inv-loop μ-loop
 returns c =
     let a = c .before .before .before .before .before .before .args in
@@ -33,12 +24,6 @@ returns c =
     let l = c .before .before .before .before .loop in
     sym (times-broken readAnchor s (l .q) (l .left) (c .before .before .before .loop-test .taken)
     (sym (ap (restAt s) (c .enum-told .given .1)) ∙ c .before .before .anchor-stop .ensures)) ∙ l .inv
-
-sub-left : tie.Need-sub-left Inv-loop μ-loop
-sub-left c = search needs
-
-loop-less : tie.Need-loop-less Inv-loop μ-loop
-loop-less c = search needs
 
 loop-again : tie.Need-loop-again Inv-loop μ-loop
 loop-again c =
@@ -62,11 +47,11 @@ anchors-stop-spec =
     Inv-loop
     μ-loop
     loop-holds
-    anchor-stop-requires
-    enum-known-e
-    enum-told
+    (λ c κs. search needs)
+    (λ c. search needs)
+    (λ c. search needs)
     returns
-    sub-left
-    loop-less
+    (λ c. search needs)
+    (λ c. search needs)
     loop-again
     returns-2)

@@ -20,9 +20,6 @@ returns c =
     let s = a .image .now in
     sym (section-short readCommunity maxCommunities distinct s (a .p) (c .if1 .taken))
 
-octet-at-requires : tie.Need-octet-at-requires
-octet-at-requires c κs = search needs
-
 returns-2 : tie.Need-returns-2
 unfolding readCommunitySection
 returns-2 c =
@@ -32,18 +29,6 @@ returns-2 c =
     let count = c .before .octet-at .ensures .0 in
     let room = c .before .before .if1 .left in
     sym (section-over readCommunity maxCommunities distinct s (a .p) room n count (c .if2 .taken))
-
-add-communities-stop : tie.Need-add-communities-stop
-add-communities-stop c = search needs
-
-communities-stop-requires : tie.Need-communities-stop-requires
-communities-stop-requires c κs = search needs
-
-enum-known-e : tie.Need-enum-known-e
-enum-known-e c = search needs
-
-enum-told : tie.Need-enum-told
-enum-told c = search needs
 
 returns-3 : tie.Need-returns-3
 unfolding readCommunitySection
@@ -55,12 +40,6 @@ returns-3 c =
     let room = c .before .before .before .before .before .if1 .left in
     sym (section-broken readCommunity maxCommunities distinct s (a .p) room n count (c .before .before .before .if2 .left)
     (sym (ap (restAt s) (c .enum-told .given .1)) ∙ c .before .before .communities-stop .ensures))
-
-add-names-differ : tie.Need-add-names-differ
-add-names-differ c = search needs
-
-names-differ-requires : tie.Need-names-differ-requires
-names-differ-requires c κs = search needs
 
 returns-4 : tie.Need-returns-4
 unfolding readCommunitySection
@@ -93,14 +72,14 @@ community-section-spec =
     tie.close
     (tie.spec
     returns
-    octet-at-requires
+    (λ c κs. search needs)
     returns-2
-    add-communities-stop
-    communities-stop-requires
-    enum-known-e
-    enum-told
+    (λ c. search needs)
+    (λ c κs. search needs)
+    (λ c. search needs)
+    (λ c. search needs)
     returns-3
-    add-names-differ
-    names-differ-requires
+    (λ c. search needs)
+    (λ c κs. search needs)
     returns-4
     returns-5)

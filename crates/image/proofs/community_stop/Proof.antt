@@ -9,26 +9,11 @@ use Rattle.image.proofs.Checks.{community-broken, community-no-oid, com
 use Rattle.image.proofs.community_stop.Statement.{statement}
 use Rattle.image.proofs.community_stop.Tie as tie
 
-name-stop-requires : tie.Need-name-stop-requires
-name-stop-requires c κs = search needs
-
-enum-known-e : tie.Need-enum-known-e
-enum-known-e c = search needs
-
-enum-told : tie.Need-enum-told
-enum-told c = search needs
-
 returns : tie.Need-returns
 returns c =
     let a = c .before .before .before .before .args in
     let s = a .s .now in
     sym (ap behind (community-broken (drop (a .p) s) (sym (ap (nameRead s (a .p)) (c .enum-told .given .1)) ∙ c .before .before .name-stop .ensures)))
-
-name-at-requires : tie.Need-name-at-requires
-name-at-requires c κs = search needs
-
-is-oid-requires : tie.Need-is-oid-requires
-is-oid-requires c κs = search needs
 
 returns-2 : tie.Need-returns-2
 returns-2 c =
@@ -50,11 +35,11 @@ pub community-stop-spec : {M : Type 1} → statement M
 community-stop-spec =
     tie.close
     (tie.spec
-    name-stop-requires
-    enum-known-e
-    enum-told
+    (λ c κs. search needs)
+    (λ c. search needs)
+    (λ c. search needs)
     returns
-    name-at-requires
-    is-oid-requires
+    (λ c κs. search needs)
+    (λ c κs. search needs)
     returns-2
     returns-3)

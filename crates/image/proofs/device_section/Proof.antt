@@ -8,23 +8,11 @@ use Rattle.image.proofs.Checks.{device-count, device-hwType, device-ser
 use Rattle.image.proofs.device_section.Statement.{statement}
 use Rattle.image.proofs.device_section.Tie as tie
 
-octet-at-requires : tie.Need-octet-at-requires
-octet-at-requires c κs = search needs
-
 returns : tie.Need-returns
 returns c =
     let a = c .before .before .before .args in
     let s = a .image .now in
     sym (ap behind (device-count s (λ e. c .if1 .taken (c .before .octet-at .ensures .0 ∙ e))))
-
-name-stop-requires : tie.Need-name-stop-requires
-name-stop-requires c κs = search needs
-
-enum-known-p : tie.Need-enum-known-p
-enum-known-p c = search needs
-
-enum-told : tie.Need-enum-told
-enum-told c = search needs
 
 returns-2 : tie.Need-returns-2
 returns-2 c =
@@ -32,15 +20,6 @@ returns-2 c =
     let s = a .image .now in
     let one = sym (c .before .before .before .before .octet-at .ensures .0) ∙ c .before .before .before .if1 .left in
     sym (ap behind (device-hwType s one (sym (ap (nameRead s 1) (c .enum-told .given .1)) ∙ c .before .before .name-stop .ensures)))
-
-name-stop-requires-2 : tie.Need-name-stop-requires-2
-name-stop-requires-2 c κs = search needs
-
-enum-known-q : tie.Need-enum-known-q
-enum-known-q c = search needs
-
-enum-told-2 : tie.Need-enum-told-2
-enum-told-2 c = search needs
 
 returns-3 : tie.Need-returns-3
 returns-3 c =
@@ -54,12 +33,6 @@ returns-3 c =
     (device-serial s one _ _
     (sym (ap (nameRead s 1) (c .before .before .before .before .p .given .1)) ∙ c .before .before .before .before .before .before .name-stop .ensures)
     (sym (ap (nameRead s p) (c .enum-told2 .given .1)) ∙ c .before .before .name-stop2 .ensures)))
-
-name-at-requires : tie.Need-name-at-requires
-name-at-requires c κs = search needs
-
-is-oid-requires : tie.Need-is-oid-requires
-is-oid-requires c κs = search needs
 
 returns-4 : tie.Need-returns-4
 returns-4 c =
@@ -98,17 +71,17 @@ pub device-section-spec : {M : Type 1} → statement M
 device-section-spec =
     tie.close
     (tie.spec
-    octet-at-requires
+    (λ c κs. search needs)
     returns
-    name-stop-requires
-    enum-known-p
-    enum-told
+    (λ c κs. search needs)
+    (λ c. search needs)
+    (λ c. search needs)
     returns-2
-    name-stop-requires-2
-    enum-known-q
-    enum-told-2
+    (λ c κs. search needs)
+    (λ c. search needs)
+    (λ c. search needs)
     returns-3
-    name-at-requires
-    is-oid-requires
+    (λ c κs. search needs)
+    (λ c κs. search needs)
     returns-4
     returns-5)

@@ -6,29 +6,11 @@ use Rattle.image.proofs.Checks.{image-no-device, image-no-anchors, imag
 use Rattle.image.proofs.is_image.Statement.{statement}
 use Rattle.image.proofs.is_image.Tie as tie
 
-device-section-requires : tie.Need-device-section-requires
-device-section-requires c κs = search needs
-
-enum-known-p : tie.Need-enum-known-p
-enum-known-p c = search needs
-
-enum-told : tie.Need-enum-told
-enum-told c = search needs
-
 returns : tie.Need-returns
 returns c =
     let a = c .before .before .before .before .args in
     let s = a .image .now in
     sym (image-no-device s (sym (ap (restAt s) (c .enum-told .given .1)) ∙ c .before .before .device-section .ensures))
-
-anchor-section-requires : tie.Need-anchor-section-requires
-anchor-section-requires c κs = search needs
-
-enum-known-q : tie.Need-enum-known-q
-enum-known-q c = search needs
-
-enum-told-2 : tie.Need-enum-told-2
-enum-told-2 c = search needs
 
 returns-2 : tie.Need-returns-2
 returns-2 c =
@@ -38,15 +20,6 @@ returns-2 c =
     (image-no-anchors s _ (sym (ap (restAt s) (c .before .before .before .before .p .given .1))
     ∙ c .before .before .before .before .before .before .device-section .ensures)
     (sym (ap (restAt s) (c .enum-told2 .given .1)) ∙ c .before .before .anchor-section .ensures))
-
-community-section-requires : tie.Need-community-section-requires
-community-section-requires c κs = search needs
-
-enum-known-e : tie.Need-enum-known-e
-enum-known-e c = search needs
-
-enum-told-3 : tie.Need-enum-told-3
-enum-told-3 c = search needs
 
 returns-3 : tie.Need-returns-3
 returns-3 c =
@@ -74,16 +47,16 @@ pub is-image-spec : {M : Type 1} → statement M
 is-image-spec =
     tie.close
     (tie.spec
-    device-section-requires
-    enum-known-p
-    enum-told
+    (λ c κs. search needs)
+    (λ c. search needs)
+    (λ c. search needs)
     returns
-    anchor-section-requires
-    enum-known-q
-    enum-told-2
+    (λ c κs. search needs)
+    (λ c. search needs)
+    (λ c. search needs)
     returns-2
-    community-section-requires
-    enum-known-e
-    enum-told-3
+    (λ c κs. search needs)
+    (λ c. search needs)
+    (λ c. search needs)
     returns-3
     returns-4)

@@ -15,9 +15,6 @@ returns c =
     let s = a .s .now in
     sym (sized-short s (a .p) 1 maxName (lit< tt) (omega arith))
 
-octet-at-requires : tie.Need-octet-at-requires
-octet-at-requires c κs = search needs
-
 returns-2 : tie.Need-returns-2
 returns-2 c =
     let a = c .before .before .before .before .args in
@@ -36,12 +33,6 @@ returns-3 c =
     let size = number-one s (a .p) room ∙ sym (c .before .before .octet-at .ensures .0) in
     sym (sized-outside s (a .p) 1 maxName n (omega arith) size (λ l m. omega arith))
 
-sub-if4 : tie.Need-sub-if4
-sub-if4 c = search needs
-
-sub-if4-2 : tie.Need-sub-if4-2
-sub-if4-2 c = search needs
-
 returns-4 : tie.Need-returns-4
 returns-4 c =
     let a = c .before .before .before .before .before .before .args in
@@ -50,12 +41,6 @@ returns-4 c =
     let room = c .before .before .before .before .if1 .left in
     let size = number-one s (a .p) room ∙ sym (c .before .before .before .octet-at .ensures .0) in
     sym (sized-cut s (a .p) 1 maxName n (omega arith) size (omega arith))
-
-add-t4 : tie.Need-add-t4
-add-t4 c = search needs
-
-add-t6 : tie.Need-add-t6
-add-t6 c = search needs
 
 returns-5 : tie.Need-returns-5
 returns-5 c =
@@ -69,12 +54,12 @@ name-stop-spec =
     tie.close
     (tie.spec
     returns
-    octet-at-requires
+    (λ c κs. search needs)
     returns-2
     returns-3
-    sub-if4
-    sub-if4-2
+    (λ c. search needs)
+    (λ c. search needs)
     returns-4
-    add-t4
-    add-t6
+    (λ c. search needs)
+    (λ c. search needs)
     returns-5)

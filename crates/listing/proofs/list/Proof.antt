@@ -10,9 +10,6 @@ use Rattle.listing.proofs.Bounds.{listing-length}
 use Rattle.listing.proofs.list.Statement.{statement}
 use Rattle.listing.proofs.list.Tie as tie
 
-is-image-requires : tie.Need-is-image-requires
-is-image-requires c κs = search needs
-
 put-image-requires : tie.Need-put-image-requires
 put-image-requires c κs =
     let i = c .before .before .before .before .args .image .now in
@@ -24,12 +21,6 @@ returns c =
     let k₂ = k₁ .before .before in
     let i = k₂ .args .image .now in
     rw (← good-listing i (k₁ .is-image .ensures) (c .before .before .if1 .taken)) (rw (zero-add) at (c .put-image .ensures))
-
-slice-aggregate-put-word : tie.Need-slice-aggregate-put-word
-slice-aggregate-put-word c = search needs
-
-put-word-requires : tie.Need-put-word-requires
-put-word-requires c κs = search needs
 
 returns-2 : tie.Need-returns-2
 unfolding ascii codesFrom
@@ -44,9 +35,9 @@ pub list-spec : {M : Type 1} → statement M
 list-spec =
     tie.close
     (tie.spec
-    is-image-requires
+    (λ c κs. search needs)
     put-image-requires
     returns
-    slice-aggregate-put-word
-    put-word-requires
+    (λ c. search needs)
+    (λ c κs. search needs)
     returns-2)

@@ -10,29 +10,17 @@ use Rattle.octets.proofs.Turns.{left-start, left-step, last-step}
 use Rattle.listing.proofs.put_anchors.Statement.{statement}
 use Rattle.listing.proofs.put_anchors.Tie as tie
 
-anchor-count-requires : tie.Need-anchor-count-requires
-anchor-count-requires c κs = search needs
-
-slice-aggregate-put-count : tie.Need-slice-aggregate-put-count
-slice-aggregate-put-count c = search needs
-
 put-count-requires : tie.Need-put-count-requires
 unfolding ascii codesFrom
 put-count-requires c κs =
     let i = c .before .before .before .before .before .args .image .now in
     omega (arith, anchors-length i (c .before .before .anchor-count .ensures) refl)
 
-first-record-requires : tie.Need-first-record-requires
-first-record-requires c κs = search needs
-
 put-records-requires : tie.Need-put-records-requires
 unfolding ascii codesFrom
 put-records-requires c κs =
     let i = c .before .before .before .before .before .before .before .before .before .before .args .image .now in
     omega (arith, anchors-length i (c .before .before .before .before .before .before .before .anchor-count .ensures) (c .first-record .ensures))
-
-same-length : tie.Need-same-length
-same-length c = search needs
 
 returns : tie.Need-returns
 unfolding ascii codesFrom
@@ -53,10 +41,10 @@ pub put-anchors-spec : {M : Type 1} → statement M
 put-anchors-spec =
     tie.close
     (tie.spec
-    anchor-count-requires
-    slice-aggregate-put-count
+    (λ c κs. search needs)
+    (λ c. search needs)
     put-count-requires
-    first-record-requires
+    (λ c κs. search needs)
     put-records-requires
-    same-length
+    (λ c. search needs)
     returns)

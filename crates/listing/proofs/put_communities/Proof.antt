@@ -10,29 +10,17 @@ use Rattle.octets.proofs.Turns.{left-start, left-step, last-step}
 use Rattle.listing.proofs.put_communities.Statement.{statement}
 use Rattle.listing.proofs.put_communities.Tie as tie
 
-community-count-requires : tie.Need-community-count-requires
-community-count-requires c κs = search needs
-
-slice-aggregate-put-count : tie.Need-slice-aggregate-put-count
-slice-aggregate-put-count c = search needs
-
 put-count-requires : tie.Need-put-count-requires
 unfolding ascii codesFrom
 put-count-requires c κs =
     let i = c .before .before .before .before .before .args .image .now in
     omega (arith, communities-length i (c .before .before .community-count .ensures) refl)
 
-community-octets-requires : tie.Need-community-octets-requires
-community-octets-requires c κs = search needs
-
 put-names-requires : tie.Need-put-names-requires
 unfolding ascii codesFrom
 put-names-requires c κs =
     let i = c .before .before .before .before .before .before .before .before .before .before .args .image .now in
     omega (arith, communities-length i (c .before .before .before .before .before .before .before .community-count .ensures) (c .community-octets .ensures))
-
-same-length : tie.Need-same-length
-same-length c = search needs
 
 returns : tie.Need-returns
 unfolding ascii codesFrom
@@ -53,10 +41,10 @@ pub put-communities-spec : {M : Type 1} → statement M
 put-communities-spec =
     tie.close
     (tie.spec
-    community-count-requires
-    slice-aggregate-put-count
+    (λ c κs. search needs)
+    (λ c. search needs)
     put-count-requires
-    community-octets-requires
+    (λ c κs. search needs)
     put-names-requires
-    same-length
+    (λ c. search needs)
     returns)

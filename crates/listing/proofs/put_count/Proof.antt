@@ -15,9 +15,6 @@ put-word-requires c κs = let a = c .before .before .before .args in omega (arit
 put-decimal-line-requires : tie.Need-put-decimal-line-requires
 put-decimal-line-requires c κs = let a = c .before .before .before .before .before .before .before .args in omega (arith, count-length (a .word .now) (a .n))
 
-same-length : tie.Need-same-length
-same-length c = search needs
-
 returns : tie.Need-returns
 unfolding countLine decimalLine
 returns c =
@@ -31,4 +28,4 @@ returns c =
 
 pub put-count-spec : {M : Type 1} → statement M
 put-count-spec =
-    tie.close (tie.spec put-word-requires put-decimal-line-requires same-length returns)
+    tie.close (tie.spec put-word-requires put-decimal-line-requires (λ c. search needs) returns)

@@ -7,9 +7,6 @@ use Rattle.listing.proofs.put_decimal.Tie as tie
 put-octet-requires : tie.Need-put-octet-requires
 put-octet-requires c κs = let a = c .before .before .before .args in rw (decimal-zero (a .n) (c .before .if1 .taken)) at (c .before .before .before .pre)
 
-same-length : tie.Need-same-length
-same-length c = search needs
-
 returns : tie.Need-returns
 returns c =
     let k₁ = c .before .before .before .before in
@@ -19,9 +16,6 @@ returns c =
 
 put-digits-requires : tie.Need-put-digits-requires
 put-digits-requires c κs = let a = c .before .before .before .args in rw (decimal-digits (a .n) (c .before .if1 .left)) at (c .before .before .before .pre)
-
-same-length-2 : tie.Need-same-length-2
-same-length-2 c = search needs
 
 returns-2 : tie.Need-returns-2
 returns-2 c =
@@ -33,4 +27,4 @@ returns-2 c =
 pub put-decimal-spec : {M : Type 1} → statement M
 put-decimal-spec =
     tie.close
-    (tie.spec put-octet-requires same-length returns put-digits-requires same-length-2 returns-2)
+    (tie.spec put-octet-requires (λ c. search needs) returns put-digits-requires (λ c. search needs) returns-2)

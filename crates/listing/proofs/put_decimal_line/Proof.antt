@@ -16,9 +16,6 @@ put-decimal-requires c κs = omega (arith, decimal-line-length (c .before .befor
 put-octet-requires : tie.Need-put-octet-requires
 put-octet-requires c κs = omega (arith, decimal-line-length (c .before .before .before .before .before .before .args .n))
 
-same-length : tie.Need-same-length
-same-length c = search needs
-
 returns : tie.Need-returns
 unfolding decimalLine
 returns c =
@@ -32,4 +29,4 @@ returns c =
 
 pub put-decimal-line-spec : {M : Type 1} → statement M
 put-decimal-line-spec =
-    tie.close (tie.spec put-decimal-requires put-octet-requires same-length returns)
+    tie.close (tie.spec put-decimal-requires put-octet-requires (λ c. search needs) returns)

@@ -11,14 +11,8 @@ use Rattle.octets.proofs.Turns.{left-start, left-step, last-step}
 use Rattle.listing.proofs.put_device.Statement.{statement}
 use Rattle.listing.proofs.put_device.Tie as tie
 
-slice-aggregate-put-word : tie.Need-slice-aggregate-put-word
-slice-aggregate-put-word c = search needs
-
 put-word-requires : tie.Need-put-word-requires
 put-word-requires c κs = omega (arith, device-length (c .before .before .before .before .args .image .now) refl refl)
-
-hw-type-requires : tie.Need-hw-type-requires
-hw-type-requires c κs = search needs
 
 put-hex-requires : tie.Need-put-hex-requires
 put-hex-requires c κs =
@@ -30,17 +24,11 @@ put-octet-requires c κs =
     let i = c .before .before .before .before .before .before .before .before .before .before .before .before .before .args .image .now in
     omega (arith, device-length i (c .before .before .before .before .hw-type .ensures) refl)
 
-serial-requires : tie.Need-serial-requires
-serial-requires c κs = search needs
-
 put-hex-line-requires : tie.Need-put-hex-line-requires
 put-hex-line-requires c κs =
     let k = c .before .before .before .before .before .before .before .before .before in
     let i = k .before .before .before .before .before .before .before .before .before .args .image .now in
     omega (arith, device-length i (k .hw-type .ensures) (c .serial .ensures))
-
-same-length : tie.Need-same-length
-same-length c = search needs
 
 returns : tie.Need-returns
 unfolding ascii codesFrom
@@ -65,12 +53,12 @@ pub put-device-spec : {M : Type 1} → statement M
 put-device-spec =
     tie.close
     (tie.spec
-    slice-aggregate-put-word
+    (λ c. search needs)
     put-word-requires
-    hw-type-requires
+    (λ c κs. search needs)
     put-hex-requires
     put-octet-requires
-    serial-requires
+    (λ c κs. search needs)
     put-hex-line-requires
-    same-length
+    (λ c. search needs)
     returns)

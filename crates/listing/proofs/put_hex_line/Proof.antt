@@ -16,9 +16,6 @@ put-hex-requires c κs = omega (arith, hex-line-length (c .before .before .befor
 put-octet-requires : tie.Need-put-octet-requires
 put-octet-requires c κs = omega (arith, hex-line-length (c .before .before .before .before .before .before .before .args .s .now))
 
-same-length : tie.Need-same-length
-same-length c = search needs
-
 returns : tie.Need-returns
 unfolding hexLine
 returns c =
@@ -31,4 +28,4 @@ returns c =
     last-step (a .buf .now) (a .at) all h l (c .before .before .put-octet .ensures)
 
 pub put-hex-line-spec : {M : Type 1} → statement M
-put-hex-line-spec = tie.close (tie.spec put-hex-requires put-octet-requires same-length returns)
+put-hex-line-spec = tie.close (tie.spec put-hex-requires put-octet-requires (λ c. search needs) returns)

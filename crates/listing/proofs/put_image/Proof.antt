@@ -19,9 +19,6 @@ put-communities-requires c κs =
     let i = c .before .before .before .before .before .before .before .before .before .before .before .args .image .now in
     omega (arith, image-length i)
 
-same-length : tie.Need-same-length
-same-length c = search needs
-
 returns : tie.Need-returns
 unfolding imageText
 returns c =
@@ -43,5 +40,5 @@ put-image-spec =
     put-device-requires
     put-anchors-requires
     put-communities-requires
-    same-length
+    (λ c. search needs)
     returns)

@@ -10,9 +10,6 @@ use Rattle.octets.proofs.Turns.{left-start, left-step, last-step}
 use Rattle.listing.proofs.put_key.Statement.{statement}
 use Rattle.listing.proofs.put_key.Tie as tie
 
-identifier-of-requires : tie.Need-identifier-of-requires
-identifier-of-requires c κs = search needs
-
 put-hex-requires : tie.Need-put-hex-requires
 put-hex-requires c κs = omega (arith, key-length (c .before .before .before .before .args .row .now) (c .identifier-of .ensures) refl)
 
@@ -21,16 +18,10 @@ put-octet-requires c κs =
     let r = c .before .before .before .before .before .before .before .before .args .row .now in
     omega (arith, key-length r (c .before .before .before .before .identifier-of .ensures) refl)
 
-number-of-requires : tie.Need-number-of-requires
-number-of-requires c κs = search needs
-
 put-number-requires : tie.Need-put-number-requires
 put-number-requires c κs =
     let r = c .before .before .before .before .before .before .before .before .before .before .before .before .before .args .row .now in
     omega (arith, key-length r (c .before .before .before .before .before .before .before .before .before .identifier-of .ensures) (c .number-of .ensures))
-
-same-length : tie.Need-same-length
-same-length c = search needs
 
 returns : tie.Need-returns
 returns c =
@@ -52,10 +43,10 @@ pub put-key-spec : {M : Type 1} → statement M
 put-key-spec =
     tie.close
     (tie.spec
-    identifier-of-requires
+    (λ c κs. search needs)
     put-hex-requires
     put-octet-requires
-    number-of-requires
+    (λ c κs. search needs)
     put-number-requires
-    same-length
+    (λ c. search needs)
     returns)

@@ -17,9 +17,6 @@ abbrev μ-loop : tie.MeasureT-loop
 loop-holds : tie.Need-loop-holds Inv-loop μ-loop
 loop-holds c = left-start _ _ _
 
-name-at-requires : tie.Need-name-at-requires Inv-loop μ-loop
-name-at-requires c κs = search needs
-
 put-hex-line-requires : tie.Need-put-hex-line-requires Inv-loop μ-loop
 put-hex-line-requires c κs =
     let k₁ = c .before .before .before in
@@ -28,15 +25,6 @@ put-hex-line-requires c κs =
     let l = k₁ .loop in
     let e = names-line (a .names .now) (l .e) (l .more) (c .before .before .loop-test .taken) (c .name-at .ensures) refl in
     left-fits (a .buf .now) (a .at) _ (k₂ .pre) (l .inv) (hexLine (c .name-at .result .now)) _ e
-
-name-end-requires : tie.Need-name-end-requires Inv-loop μ-loop
-name-end-requires c κs = search needs
-
-sub-more : tie.Need-sub-more Inv-loop μ-loop
-sub-more c = search needs
-
-loop-less : tie.Need-loop-less Inv-loop μ-loop
-loop-less c = search needs
 
 loop-again : tie.Need-loop-again Inv-loop μ-loop
 loop-again c =
@@ -66,11 +54,11 @@ put-names-spec =
     Inv-loop
     μ-loop
     loop-holds
-    name-at-requires
+    (λ c κs. search needs)
     put-hex-line-requires
-    name-end-requires
-    sub-more
-    loop-less
+    (λ c κs. search needs)
+    (λ c. search needs)
+    (λ c. search needs)
     loop-again
     same-length
     returns)

@@ -6,17 +6,8 @@ use Rattle.octets.proofs.Placed.{placed-one}
 use Rattle.listing.proofs.put_octet.Statement.{statement}
 use Rattle.listing.proofs.put_octet.Tie as tie
 
-slice-write-buf : tie.Need-slice-write-buf
-slice-write-buf c = search needs
-
-add-result : tie.Need-add-result
-add-result c = search needs
-
-same-length : tie.Need-same-length
-same-length c = search needs
-
 returns : tie.Need-returns
 returns c = let a = c .args in (refl, sym (placed-one (a .buf .now) (a .at) (a .x) (omega arith)))
 
 pub put-octet-spec : {M : Type 1} → statement M
-put-octet-spec = tie.close (tie.spec slice-write-buf add-result same-length returns)
+put-octet-spec = tie.close (tie.spec (λ c. search needs) (λ c. search needs) (λ c. search needs) returns)

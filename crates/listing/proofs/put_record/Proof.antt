@@ -18,12 +18,6 @@ put-octet-requires c κs =
     let a = c .before .before .before .before .before .before .before .args in
     omega (arith, line-length (a .position) (a .row .now) refl refl)
 
-info-of-requires : tie.Need-info-of-requires
-info-of-requires c κs = search needs
-
-role-requires : tie.Need-role-requires
-role-requires c κs = search needs
-
 put-role-requires : tie.Need-put-role-requires
 put-role-requires c κs =
     let a = c .before .before .before .before .before .before .before .before .before .before .before .before .before .args in
@@ -35,9 +29,6 @@ put-key-requires c κs =
     let e = c .before .before .before .before .before .info-of .ensures in
     let n = line-length (a .position) (a .row .now) e (c .before .before .before .before .role .ensures) in
     omega arith
-
-same-length : tie.Need-same-length
-same-length c = search needs
 
 returns : tie.Need-returns
 returns c =
@@ -63,9 +54,9 @@ put-record-spec =
     (tie.spec
     put-decimal-requires
     put-octet-requires
-    info-of-requires
-    role-requires
+    (λ c κs. search needs)
+    (λ c κs. search needs)
     put-role-requires
     put-key-requires
-    same-length
+    (λ c. search needs)
     returns)

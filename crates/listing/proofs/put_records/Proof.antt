@@ -20,9 +20,6 @@ abbrev μ-loop : tie.MeasureT-loop
 loop-holds : tie.Need-loop-holds Inv-loop μ-loop
 loop-holds c = rw (sub-zero (c .before .before .args .n)) (left-start _ _ _)
 
-record-at-requires : tie.Need-record-at-requires Inv-loop μ-loop
-record-at-requires c κs = search needs
-
 put-record-requires : tie.Need-put-record-requires Inv-loop μ-loop
 put-record-requires c κs =
     let k₁ = c .before .before .before in
@@ -31,9 +28,6 @@ put-record-requires c κs =
     let l = k₁ .loop in
     let e = lines-turn (a .image .now) (l .e) (l .i) (a .n) (c .before .before .loop-test .taken) (c .record-at .ensures) refl in
     left-fits (a .buf .now) (a .at) _ (k₂ .pre) (l .inv) (recordLine (l .i) (c .record-at .result .now)) _ e
-
-record-end-requires : tie.Need-record-end-requires Inv-loop μ-loop
-record-end-requires c κs = search needs
 
 add-i : tie.Need-add-i Inv-loop μ-loop
 add-i c = omega arith
@@ -69,9 +63,9 @@ put-records-spec =
     Inv-loop
     μ-loop
     loop-holds
-    record-at-requires
+    (λ c κs. search needs)
     put-record-requires
-    record-end-requires
+    (λ c κs. search needs)
     add-i
     loop-less
     loop-again

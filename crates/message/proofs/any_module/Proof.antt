@@ -21,12 +21,6 @@ abbrev μ-loop : tie.MeasureT-loop
 loop-holds : tie.Need-loop-holds Inv-loop μ-loop
 loop-holds c = refl
 
-element-at-requires : tie.Need-element-at-requires Inv-loop μ-loop
-element-at-requires c κs = search needs
-
-module-names-requires : tie.Need-module-names-requires Inv-loop μ-loop
-module-names-requires c κs = search needs
-
 returns : tie.Need-returns Inv-loop μ-loop
 returns c =
     let c3 = c .before .before .before in
@@ -64,8 +58,8 @@ any-module-spec =
     Inv-loop
     μ-loop
     loop-holds
-    element-at-requires
-    module-names-requires
+    (λ c κs. search needs)
+    (λ c κs. search needs)
     returns
     returns-2
     loop-less

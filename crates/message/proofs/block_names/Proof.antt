@@ -14,9 +14,6 @@ returns c = sym (block-low _ _ _ (c .if1 .taken))
 returns-2 : tie.Need-returns-2
 returns-2 c = sym (block-high _ _ _ (c .if2 .taken))
 
-in-order-requires : tie.Need-in-order-requires
-in-order-requires c κs = search needs
-
 returns-3 : tie.Need-returns-3
 returns-3 c =
     let c3 = c .before .before .before in
@@ -27,9 +24,6 @@ returns-3 c =
     let q : Octets (a .high .now) = λ i. omega (arith, c3 .before .shared-slice-known3 .given i) in
     let n = sym (c .before .in-order .ensures) ∙ not-true _ (c .if3 .taken) in
     sym (block-below (a .serial .now) (a .low .now) (a .high .now) o p q (c3 .if1 .left) (c .before .before .if2 .left) n)
-
-in-order-requires-2 : tie.Need-in-order-requires-2
-in-order-requires-2 c κs = search needs
 
 returns-4 : tie.Need-returns-4
 returns-4 c =
@@ -45,4 +39,4 @@ returns-4 c =
 pub block-names-spec : {M : Type 1} → statement M
 block-names-spec =
     tie.close
-    (tie.spec returns returns-2 in-order-requires returns-3 in-order-requires-2 returns-4)
+    (tie.spec returns returns-2 (λ c κs. search needs) returns-3 (λ c κs. search needs) returns-4)

@@ -20,9 +20,6 @@ abbrev μ-loop : tie.MeasureT-loop
 loop-holds : tie.Need-loop-holds Inv-loop μ-loop
 loop-holds c = omega arith
 
-element-at-requires : tie.Need-element-at-requires Inv-loop μ-loop
-element-at-requires c κs = search needs
-
 add-n : tie.Need-add-n Inv-loop μ-loop
 add-n c = omega arith
 
@@ -63,7 +60,7 @@ count-spec =
     Inv-loop
     μ-loop
     loop-holds
-    element-at-requires
+    (λ c κs. search needs)
     add-n
     returns
     loop-less

@@ -11,12 +11,6 @@ use Rattle.message.proofs.entry_names.Tie as tie
 returns : tie.Need-returns
 returns c = sym (entry-all _ _ _ (c .if1 .taken))
 
-contents-requires : tie.Need-contents-requires
-contents-requires c κs = search needs
-
-equal-requires : tie.Need-equal-requires
-equal-requires c κs = search needs
-
 returns-2 : tie.Need-returns-2
 returns-2 c =
     let c4 = c .before .before .before .before in
@@ -24,21 +18,6 @@ returns-2 c =
     c .equal .ensures
     ∙ ap (λ (o : List ℕ). same o (c8 .args .serial .now)) (c .before .contents .ensures)
     ∙ sym (entry-single _ _ _ (c4 .if1 .left) (c .before .before .if2 .taken))
-
-field-requires : tie.Need-field-requires
-field-requires c κs = search needs
-
-field-behind-requires : tie.Need-field-behind-requires
-field-behind-requires c κs = search needs
-
-contents-requires-2 : tie.Need-contents-requires-2
-contents-requires-2 c κs = search needs
-
-contents-requires-3 : tie.Need-contents-requires-3
-contents-requires-3 c κs = search needs
-
-block-names-requires : tie.Need-block-names-requires
-block-names-requires c κs = search needs
 
 returns-3 : tie.Need-returns-3
 returns-3 c =
@@ -53,12 +32,12 @@ entry-names-spec =
     tie.close
     (tie.spec
     returns
-    contents-requires
-    equal-requires
+    (λ c κs. search needs)
+    (λ c κs. search needs)
     returns-2
-    field-requires
-    field-behind-requires
-    contents-requires-2
-    contents-requires-3
-    block-names-requires
+    (λ c κs. search needs)
+    (λ c κs. search needs)
+    (λ c κs. search needs)
+    (λ c κs. search needs)
+    (λ c κs. search needs)
     returns-3)

@@ -4,12 +4,6 @@ use Rattle.message.proofs.Fields.{entry-add, entry-certificate, entry-r
 use Rattle.message.proofs.entry_of.Statement.{statement}
 use Rattle.message.proofs.entry_of.Tie as tie
 
-element-at-requires : tie.Need-element-at-requires
-element-at-requires c κs = search needs
-
-field-requires : tie.Need-field-requires
-field-requires c κs = search needs
-
 returns : tie.Need-returns
 returns c =
     let c3 = c .before .before .before in
@@ -26,4 +20,4 @@ returns-4 c = entry-change _ _ (c .before .before .if1 .left) (c .if3 .left)
 
 pub entry-of-spec : {M : Type 1} → statement M
 entry-of-spec =
-    tie.close (tie.spec element-at-requires field-requires returns returns-2 returns-3 returns-4)
+    tie.close (tie.spec (λ c κs. search needs) (λ c κs. search needs) returns returns-2 returns-3 returns-4)

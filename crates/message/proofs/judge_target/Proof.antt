@@ -11,9 +11,6 @@ returns c = sym (target-uri _ _ _ _ _ (c .if1 .taken))
 returns-2 : tie.Need-returns-2
 returns-2 c = sym (target-other _ _ _ _ _ (c .before .before .if1 .left) (c .if2 .taken))
 
-names-device-requires : tie.Need-names-device-requires
-names-device-requires c κs = search needs
-
 returns-3 : tie.Need-returns-3
 returns-3 c =
     let c4 = c .before .before .before .before in
@@ -26,4 +23,4 @@ returns-4 c =
 
 pub judge-target-spec : {M : Type 1} → statement M
 judge-target-spec =
-    tie.close (tie.spec returns returns-2 names-device-requires returns-3 returns-4)
+    tie.close (tie.spec returns returns-2 (λ c κs. search needs) returns-3 returns-4)

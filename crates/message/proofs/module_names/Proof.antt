@@ -6,25 +6,10 @@ use Rattle.message.proofs.Aims.{module-other, module-same}
 use Rattle.message.proofs.module_names.Statement.{statement}
 use Rattle.message.proofs.module_names.Tie as tie
 
-field-requires : tie.Need-field-requires
-field-requires c κs = search needs
-
-contents-requires : tie.Need-contents-requires
-contents-requires c κs = search needs
-
-equal-requires : tie.Need-equal-requires
-equal-requires c κs = search needs
-
 returns : tie.Need-returns
 returns c =
     let c3 = c .before .before .before in
     sym (module-other _ _ _ _ (c3 .field .ensures) (c .before .before .contents .ensures) (sym (c .before .equal .ensures) ∙ not-true _ (c .if1 .taken)))
-
-field-requires-2 : tie.Need-field-requires-2
-field-requires-2 c κs = search needs
-
-any-entry-requires : tie.Need-any-entry-requires
-any-entry-requires c κs = search needs
 
 returns-2 : tie.Need-returns-2
 returns-2 c =
@@ -36,10 +21,10 @@ pub module-names-spec : {M : Type 1} → statement M
 module-names-spec =
     tie.close
     (tie.spec
-    field-requires
-    contents-requires
-    equal-requires
+    (λ c κs. search needs)
+    (λ c κs. search needs)
+    (λ c κs. search needs)
     returns
-    field-requires-2
-    any-entry-requires
+    (λ c κs. search needs)
+    (λ c κs. search needs)
     returns-2)

@@ -8,20 +8,14 @@ use Rattle.message.proofs.names_device.Tie as tie
 returns : tie.Need-returns
 returns c = sym (names-all _ _ _ _ _ (c .if1 .taken))
 
-any-community-requires : tie.Need-any-community-requires
-any-community-requires c κs = search needs
-
 returns-2 : tie.Need-returns-2
 returns-2 c =
     let c3 = c .before .before .before in
     c .any-community .ensures ∙ sym (names-community _ _ _ _ _ (c3 .if1 .left) (c .before .if2 .taken))
-
-any-module-requires : tie.Need-any-module-requires
-any-module-requires c κs = search needs
 
 returns-3 : tie.Need-returns-3
 returns-3 c = c .any-module .ensures ∙ sym (names-module _ _ _ _ _ (c .before .before .before .if1 .left) (c .before .if2 .left))
 
 pub names-device-spec : {M : Type 1} → statement M
 names-device-spec =
-    tie.close (tie.spec returns any-community-requires returns-2 any-module-requires returns-3)
+    tie.close (tie.spec returns (λ c κs. search needs) returns-2 (λ c κs. search needs) returns-3)

@@ -5,18 +5,6 @@ use Rattle.message.proofs.Rows.{received-opened, received-refused}
 use Rattle.message.proofs.receive.Statement.{statement}
 use Rattle.message.proofs.receive.Tie as tie
 
-open-requires : tie.Need-open-requires
-open-requires c κs = search needs
-
-enum-known-w : tie.Need-enum-known-w
-enum-known-w c = search needs
-
-unwrap-requires : tie.Need-unwrap-requires
-unwrap-requires c κs = search needs
-
-enum-known-r : tie.Need-enum-known-r
-enum-known-r c = search needs
-
 returns : tie.Need-returns
 returns c =
     let c4 = c .before .before .before .before in
@@ -27,4 +15,4 @@ returns-2 c = sym (received-refused _ (sym (c .before .before .before .«open» 
 
 pub receive-spec : {M : Type 1} → statement M
 receive-spec =
-    tie.close (tie.spec open-requires enum-known-w unwrap-requires enum-known-r returns returns-2)
+    tie.close (tie.spec (λ c κs. search needs) (λ c. search needs) (λ c κs. search needs) (λ c. search needs) returns returns-2)

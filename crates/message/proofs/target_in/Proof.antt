@@ -4,12 +4,9 @@ use Rattle.message.specs.Fields.{targetIn}
 use Rattle.message.proofs.target_in.Statement.{statement}
 use Rattle.message.proofs.target_in.Tie as tie
 
-element-at-requires : tie.Need-element-at-requires
-element-at-requires c κs = search needs
-
 returns : tie.Need-returns
 unfolding targetIn
 returns c = c .element-at .ensures
 
 pub target-in-spec : {M : Type 1} → statement M
-target-in-spec = tie.close (tie.spec element-at-requires returns)
+target-in-spec = tie.close (tie.spec (λ c κs. search needs) returns)

@@ -5,14 +5,8 @@ use Rattle.der.specs.Element.{whole}
 use Rattle.message.proofs.target_octets.Statement.{statement}
 use Rattle.message.proofs.target_octets.Tie as tie
 
-target-in-requires : tie.Need-target-in-requires
-target-in-requires c κs = search needs
-
-whole-requires : tie.Need-whole-requires
-whole-requires c κs = search needs
-
 returns : tie.Need-returns
 returns c = c .whole .ensures ∙ ap (whole _) (c .before .target-in .ensures)
 
 pub target-octets-spec : {M : Type 1} → statement M
-target-octets-spec = tie.close (tie.spec target-in-requires whole-requires returns)
+target-octets-spec = tie.close (tie.spec (λ c κs. search needs) (λ c κs. search needs) returns)

@@ -5,33 +5,6 @@ use Rattle.message.proofs.Rows.{unwraps}
 use Rattle.message.proofs.unwrap.Statement.{statement}
 use Rattle.message.proofs.unwrap.Tie as tie
 
-element-at-requires : tie.Need-element-at-requires
-element-at-requires c κs = search needs
-
-field-requires : tie.Need-field-requires
-field-requires c κs = search needs
-
-field-requires-2 : tie.Need-field-requires-2
-field-requires-2 c κs = search needs
-
-body-fit-requires : tie.Need-body-fit-requires
-body-fit-requires c κs = search needs
-
-or-at-requires : tie.Need-or-at-requires
-or-at-requires c κs = search needs
-
-or-if-requires : tie.Need-or-if-requires
-or-if-requires c κs = search needs
-
-wants-verbose-requires : tie.Need-wants-verbose-requires
-wants-verbose-requires c κs = search needs
-
-or-ref-requires : tie.Need-or-ref-requires
-or-ref-requires c κs = search needs
-
-passed-requires : tie.Need-passed-requires
-passed-requires c κs = search needs
-
 returns : tie.Need-returns
 returns c =
     let r127 = c .before .before .before in
@@ -56,13 +29,13 @@ pub unwrap-spec : {M : Type 1} → statement M
 unwrap-spec =
     tie.close
     (tie.spec
-    element-at-requires
-    field-requires
-    field-requires-2
-    body-fit-requires
-    or-at-requires
-    or-if-requires
-    wants-verbose-requires
-    or-ref-requires
-    passed-requires
+    (λ c κs. search needs)
+    (λ c κs. search needs)
+    (λ c κs. search needs)
+    (λ c κs. search needs)
+    (λ c κs. search needs)
+    (λ c κs. search needs)
+    (λ c κs. search needs)
+    (λ c κs. search needs)
+    (λ c κs. search needs)
     returns)

@@ -4,12 +4,9 @@ use Rattle.message.specs.Fields.{updatesIn}
 use Rattle.message.proofs.updates_in.Statement.{statement}
 use Rattle.message.proofs.updates_in.Tie as tie
 
-field-behind-requires : tie.Need-field-behind-requires
-field-behind-requires c κs = search needs
-
 returns : tie.Need-returns
 unfolding updatesIn
 returns c = c .field-behind .ensures
 
 pub updates-in-spec : {M : Type 1} → statement M
-updates-in-spec = tie.close (tie.spec field-behind-requires returns)
+updates-in-spec = tie.close (tie.spec (λ c κs. search needs) returns)

@@ -6,14 +6,8 @@ use Rattle.message.proofs.Rows.{verbose-never, verbose-unless}
 use Rattle.message.proofs.wants_verbose.Statement.{statement}
 use Rattle.message.proofs.wants_verbose.Tie as tie
 
-asks-form-requires : tie.Need-asks-form-requires
-asks-form-requires c κs = search needs
-
 returns : tie.Need-returns
 returns c = sym (verbose-never _ _ _ (sym (c .before .asks-form .ensures) ∙ not-true _ (c .if1 .taken)))
-
-field-requires : tie.Need-field-requires
-field-requires c κs = search needs
 
 returns-2 : tie.Need-returns-2
 returns-2 c =
@@ -21,4 +15,4 @@ returns-2 c =
     sym (verbose-unless _ _ _ (sym (c3 .asks-form .ensures) ∙ not-false _ (c .before .before .if1 .left)) (c .before .field .ensures))
 
 pub wants-verbose-spec : {M : Type 1} → statement M
-wants-verbose-spec = tie.close (tie.spec asks-form-requires returns field-requires returns-2)
+wants-verbose-spec = tie.close (tie.spec (λ c κs. search needs) returns (λ c κs. search needs) returns-2)

@@ -20,24 +20,6 @@ abbrev μ-loop : tie.MeasureT-loop
 loop-holds : tie.Need-loop-holds Inv-loop μ-loop
 loop-holds c = (omega arith, refl, sym (placed-nil _ _))
 
-add-d : tie.Need-add-d Inv-loop μ-loop
-add-d c = search needs
-
-slice-read-d : tie.Need-slice-read-d Inv-loop μ-loop
-slice-read-d c = search needs
-
-add-d-2 : tie.Need-add-d-2 Inv-loop μ-loop
-add-d-2 c = search needs
-
-slice-write-d : tie.Need-slice-write-d Inv-loop μ-loop
-slice-write-d c = search needs
-
-add-i : tie.Need-add-i Inv-loop μ-loop
-add-i c = search needs
-
-loop-less : tie.Need-loop-less Inv-loop μ-loop
-loop-less c = search needs
-
 loop-again : tie.Need-loop-again Inv-loop μ-loop
 loop-again c =
     let a = c .before .before .before .args in
@@ -50,9 +32,6 @@ loop-again c =
     ∙ sym (octet-part o (a .from) (a .n) (l .i) (omega arith))
     in
     (omega arith, simp length-set (l .inv .1), rw (l .inv .2, x) (up-turn o (a .to) t (l .i) (omega arith) (omega arith)))
-
-same-length : tie.Need-same-length Inv-loop μ-loop
-same-length c = search needs
 
 returns : tie.Need-returns Inv-loop μ-loop
 returns c =
@@ -68,12 +47,12 @@ move-down-spec =
     Inv-loop
     μ-loop
     loop-holds
-    add-d
-    slice-read-d
-    add-d-2
-    slice-write-d
-    add-i
-    loop-less
+    (λ c. search needs)
+    (λ c. search needs)
+    (λ c. search needs)
+    (λ c. search needs)
+    (λ c. search needs)
+    (λ c. search needs)
     loop-again
-    same-length
+    (λ c. search needs)
     returns)

@@ -21,24 +21,6 @@ loop-holds c =
     let m = length-part (a .d .now) (a .from) (a .n) (omega arith) in
     (omega arith, down-start (a .d .now) (a .to) _ (omega arith) (a .n) m)
 
-sub-j : tie.Need-sub-j Inv-loop μ-loop
-sub-j c = search needs
-
-add-d : tie.Need-add-d Inv-loop μ-loop
-add-d c = search needs
-
-slice-read-d : tie.Need-slice-read-d Inv-loop μ-loop
-slice-read-d c = search needs
-
-add-d-2 : tie.Need-add-d-2 Inv-loop μ-loop
-add-d-2 c = search needs
-
-slice-write-d : tie.Need-slice-write-d Inv-loop μ-loop
-slice-write-d c = search needs
-
-loop-less : tie.Need-loop-less Inv-loop μ-loop
-loop-less c = search needs
-
 loop-again : tie.Need-loop-again Inv-loop μ-loop
 loop-again c =
     let a = c .before .before .before .args in
@@ -49,9 +31,6 @@ loop-again c =
     ∙ sym (octet-part (a .d .now) (a .from) (a .n) (l .j - 1) (omega arith))
     in
     (omega arith, down-turn (a .d .now) (a .to) _ (omega arith) (l .d) (l .j) (l .j - 1) _ (omega arith) (omega arith) x (l .inv .1))
-
-same-length : tie.Need-same-length Inv-loop μ-loop
-same-length c = search needs
 
 returns : tie.Need-returns Inv-loop μ-loop
 returns c =
@@ -68,12 +47,12 @@ move-up-spec =
     Inv-loop
     μ-loop
     loop-holds
-    sub-j
-    add-d
-    slice-read-d
-    add-d-2
-    slice-write-d
-    loop-less
+    (λ c. search needs)
+    (λ c. search needs)
+    (λ c. search needs)
+    (λ c. search needs)
+    (λ c. search needs)
+    (λ c. search needs)
     loop-again
-    same-length
+    (λ c. search needs)
     returns)

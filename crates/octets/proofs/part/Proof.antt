@@ -7,55 +7,16 @@ use Rattle.octets.proofs.Parts.{part-none, part-behind, part-rest}
 use Rattle.octets.proofs.part.Statement.{statement}
 use Rattle.octets.proofs.part.Tie as tie
 
-sub-result : tie.Need-sub-result
-sub-result c = search needs
-
-part-result-start : tie.Need-part-result-start
-part-result-start c = search needs
-
-part-result-end : tie.Need-part-result-end
-part-result-end c = search needs
-
-returns : tie.Need-returns
-returns c = search needs
-
-sub-result-2 : tie.Need-sub-result-2
-sub-result-2 c = search needs
-
-part-result-start-2 : tie.Need-part-result-start-2
-part-result-start-2 c = search needs
-
-part-result-end-2 : tie.Need-part-result-end-2
-part-result-end-2 c = search needs
-
 returns-2 : tie.Need-returns-2
 returns-2 c =
     let a = c .before .before .before .args in
     let n = length (a .s .now) in
     part-none (a .s .now) n n (omega arith) ∙ sym (part-none (a .s .now) (a .a) (a .e) (c .before .if2 .left))
 
-sub-result-3 : tie.Need-sub-result-3
-sub-result-3 c = search needs
-
-part-result-start-3 : tie.Need-part-result-start-3
-part-result-start-3 c = search needs
-
-part-result-end-3 : tie.Need-part-result-end-3
-part-result-end-3 c = search needs
-
 returns-3 : tie.Need-returns-3
 returns-3 c =
     let a = c .before .before .before .args in
     part-rest (a .s .now) (a .a) (length (a .s .now)) (omega arith) ∙ sym (part-rest (a .s .now) (a .a) (a .e) (omega arith))
-
-sub-result-4 : tie.Need-sub-result-4
-sub-result-4 c = search needs
-
-part-result-start-4 : tie.Need-part-result-start-4
-part-result-start-4 c = search needs
-
-part-result-end-4 : tie.Need-part-result-end-4
-part-result-end-4 c = search needs
 
 returns-4 : tie.Need-returns-4
 returns-4 c =
@@ -67,19 +28,19 @@ pub part-spec : {M : Type 1} → statement M
 part-spec =
     tie.close
     (tie.spec
-    sub-result
-    part-result-start
-    part-result-end
-    returns
-    sub-result-2
-    part-result-start-2
-    part-result-end-2
+    (λ c. search needs)
+    (λ c. search needs)
+    (λ c. search needs)
+    (λ c. search needs)
+    (λ c. search needs)
+    (λ c. search needs)
+    (λ c. search needs)
     returns-2
-    sub-result-3
-    part-result-start-3
-    part-result-end-3
+    (λ c. search needs)
+    (λ c. search needs)
+    (λ c. search needs)
     returns-3
-    sub-result-4
-    part-result-start-4
-    part-result-end-4
+    (λ c. search needs)
+    (λ c. search needs)
+    (λ c. search needs)
     returns-4)

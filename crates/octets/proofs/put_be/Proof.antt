@@ -23,21 +23,6 @@ loop-holds c =
     let m = length-bigEndian (a .width) (a .n) in
     (omega arith, take-all (a .width) _ (omega arith), down-start (a .dst .now) (a .at) _ (omega arith) (a .width) m)
 
-sub-j : tie.Need-sub-j Inv-loop μ-loop
-sub-j c = search needs
-
-cast-dst : tie.Need-cast-dst Inv-loop μ-loop
-cast-dst c = search needs
-
-add-dst : tie.Need-add-dst Inv-loop μ-loop
-add-dst c = search needs
-
-slice-write-dst : tie.Need-slice-write-dst Inv-loop μ-loop
-slice-write-dst c = search needs
-
-loop-less : tie.Need-loop-less Inv-loop μ-loop
-loop-less c = search needs
-
 loop-again : tie.Need-loop-again Inv-loop μ-loop
 loop-again c =
     let a = c .before .before .args in
@@ -50,9 +35,6 @@ loop-again c =
       rest-octets o (l .j) (l .j - 1) (l .rest) e (l .inv .1),
       down-turn (a .dst .now) (a .at) o (omega arith) (l .dst) (l .j) (l .j - 1) _ e (omega arith) x (l .inv .2),
     )
-
-same-length : tie.Need-same-length Inv-loop μ-loop
-same-length c = search needs
 
 returns : tie.Need-returns Inv-loop μ-loop
 returns c =
@@ -69,11 +51,11 @@ put-be-spec =
     Inv-loop
     μ-loop
     loop-holds
-    sub-j
-    cast-dst
-    add-dst
-    slice-write-dst
-    loop-less
+    (λ c. search needs)
+    (λ c. search needs)
+    (λ c. search needs)
+    (λ c. search needs)
+    (λ c. search needs)
     loop-again
-    same-length
+    (λ c. search needs)
     returns)

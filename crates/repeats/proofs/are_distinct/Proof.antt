@@ -5,30 +5,15 @@ use Rattle.repeats.proofs.Rests.{left-repeated, left-from, left-other}
 use Rattle.repeats.proofs.are_distinct.Statement.{statement}
 use Rattle.repeats.proofs.are_distinct.Tie as tie
 
-compare-requires : tie.Need-compare-requires
-compare-requires c κs = search needs
-
-enum-known-i : tie.Need-enum-known-i
-enum-known-i c = search needs
-
-enum-told : tie.Need-enum-told
-enum-told c = search needs
-
 returns : tie.Need-returns
 returns c =
     let a = c .before .before .before .before .args in
     sym (left-repeated (a .by) (a .s .now) (a .other) (a .list .start) (a .list .stop) 16 (c .before .before .compare .ensures) (c .enum-told .given .1))
 
-is-distinct-requires : tie.Need-is-distinct-requires
-is-distinct-requires c κs = search needs
-
 returns-2 : tie.Need-returns-2
 returns-2 c =
     let a = c .before .before .before .before .before .before .before .before .args in
     c .is-distinct .ensures ∙ sym (left-other (a .by) (a .s .now) (a .other) (a .list .start) (a .list .stop) 16 (c .before .before .before .before .before .before .compare .ensures) (c .before .before .before .before .i .given .1) (c .before .if1 .taken))
-
-long-distinct-requires : tie.Need-long-distinct-requires
-long-distinct-requires c κs = search needs
 
 returns-3 : tie.Need-returns-3
 returns-3 c =
@@ -39,11 +24,11 @@ pub are-distinct-spec : {M : Type 1} → statement M
 are-distinct-spec =
     tie.close
     (tie.spec
-    compare-requires
-    enum-known-i
-    enum-told
+    (λ c κs. search needs)
+    (λ c. search needs)
+    (λ c. search needs)
     returns
-    is-distinct-requires
+    (λ c κs. search needs)
     returns-2
-    long-distinct-requires
+    (λ c κs. search needs)
     returns-3)

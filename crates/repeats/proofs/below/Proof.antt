@@ -12,41 +12,17 @@ Inv-loop x y m₀ m = m ≤ 256
 abbrev μ-loop : tie.MeasureT-loop
 μ-loop x y m₀ m = m
 
-loop-holds : tie.Need-loop-holds Inv-loop μ-loop
-loop-holds c = search needs
-
-div-if1 : tie.Need-div-if1 Inv-loop μ-loop
-div-if1 c = search needs
-
-div-if1-2 : tie.Need-div-if1-2 Inv-loop μ-loop
-div-if1-2 c = search needs
-
-sub-result : tie.Need-sub-result Inv-loop μ-loop
-sub-result c = search needs
-
-returns : tie.Need-returns Inv-loop μ-loop
-returns c = search needs
-
-loop-less : tie.Need-loop-less Inv-loop μ-loop
-loop-less c = search needs
-
-loop-again : tie.Need-loop-again Inv-loop μ-loop
-loop-again c = search needs
-
-returns-2 : tie.Need-returns-2 Inv-loop μ-loop
-returns-2 c = search needs
-
 pub below-spec : {M : Type 1} → statement M
 below-spec =
     tie.close
     (tie.spec
     Inv-loop
     μ-loop
-    loop-holds
-    div-if1
-    div-if1-2
-    sub-result
-    returns
-    loop-less
-    loop-again
-    returns-2)
+    (λ c. search needs)
+    (λ c. search needs)
+    (λ c. search needs)
+    (λ c. search needs)
+    (λ c. search needs)
+    (λ c. search needs)
+    (λ c. search needs)
+    (λ c. search needs))

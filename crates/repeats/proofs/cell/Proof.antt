@@ -9,17 +9,8 @@ use Rattle.repeats.proofs.cell.Tie as tie
 returns : tie.Need-returns
 returns c = (sym (List·getD-eq-default (c .before .before .args .tree .now) 0 (c .if1 .taken)), omega arith)
 
-mul-wide : tie.Need-mul-wide
-mul-wide c = search needs
-
-shared-slice-read-wide : tie.Need-shared-slice-read-wide
-shared-slice-read-wide c = search needs
-
-wide-requires : tie.Need-wide-requires
-wide-requires c κs = search needs
-
 returns-2 : tie.Need-returns-2
 returns-2 c = c .wide .ensures
 
 pub cell-spec : {M : Type 1} → statement M
-cell-spec = tie.close (tie.spec returns mul-wide shared-slice-read-wide wide-requires returns-2)
+cell-spec = tie.close (tie.spec returns (λ c. search needs) (λ c. search needs) (λ c κs. search needs) returns-2)

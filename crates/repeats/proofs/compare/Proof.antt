@@ -25,15 +25,6 @@ returns c =
     let l = c .before .before .loop in
     (l .inv .0, λ h. omega (arith, l .inv .1, c .if1 .taken))
 
-element-at-requires : tie.Need-element-at-requires Inv-loop μ-loop
-element-at-requires c κs = search needs
-
-next-requires : tie.Need-next-requires Inv-loop μ-loop
-next-requires c κs = search needs
-
-recurs-requires : tie.Need-recurs-requires Inv-loop μ-loop
-recurs-requires c κs = search needs
-
 returns-2 : tie.Need-returns-2 Inv-loop μ-loop
 returns-2 c =
     let a = c .before .before .before .before .before .before .before .before .args in
@@ -70,9 +61,9 @@ compare-spec =
     μ-loop
     loop-holds
     returns
-    element-at-requires
-    next-requires
-    recurs-requires
+    (λ c κs. search needs)
+    (λ c κs. search needs)
+    (λ c κs. search needs)
     returns-2
     add-n
     loop-less

@@ -11,31 +11,10 @@ use Rattle.repeats.proofs.Rests.{left-repeated, left-none}
 use Rattle.repeats.proofs.compare_all.Statement.{statement}
 use Rattle.repeats.proofs.compare_all.Tie as tie
 
-compare-requires : tie.Need-compare-requires
-compare-requires c κs = search needs
-
-enum-told : tie.Need-enum-told
-enum-told c = search needs
-
-enum-told-2 : tie.Need-enum-told-2
-enum-told-2 c = search needs
-
 returns : tie.Need-returns
 returns c =
     let a = c .before .before .before .before .args in
     sym (left-repeated (a .by) (a .s .now) (a .other) (a .at) (a .stop) (a .stop) (c .before .before .compare .ensures) (c .enum-told2 .given .1))
-
-no-element-requires : tie.Need-no-element-requires
-no-element-requires c κs = search needs
-
-compare-requires-2 : tie.Need-compare-requires-2
-compare-requires-2 c κs = search needs
-
-enum-told-3 : tie.Need-enum-told-3
-enum-told-3 c = search needs
-
-enum-told-4 : tie.Need-enum-told-4
-enum-told-4 c = search needs
 
 returns-2 : tie.Need-returns-2
 returns-2 c =
@@ -58,13 +37,13 @@ pub compare-all-spec : {M : Type 1} → statement M
 compare-all-spec =
     tie.close
     (tie.spec
-    compare-requires
-    enum-told
-    enum-told-2
+    (λ c κs. search needs)
+    (λ c. search needs)
+    (λ c. search needs)
     returns
-    no-element-requires
-    compare-requires-2
-    enum-told-3
-    enum-told-4
+    (λ c κs. search needs)
+    (λ c κs. search needs)
+    (λ c. search needs)
+    (λ c. search needs)
     returns-2
     returns-3)

@@ -7,15 +7,6 @@ use Rattle.repeats.proofs.distinct_before.Tie as tie
 returns : tie.Need-returns
 returns c = until-start (c .before .before .before .args .by) (c .before .before .before .args .s .now) (c .before .before .before .args .list)
 
-no-element-requires : tie.Need-no-element-requires
-no-element-requires c κs = search needs
-
-by-tree-requires : tie.Need-by-tree-requires
-by-tree-requires c κs = search needs
-
-enum-told : tie.Need-enum-told
-enum-told c = search needs
-
 returns-2 : tie.Need-returns-2
 returns-2 c =
     let a = c .before .before .before .before .before .before .before .args in
@@ -26,4 +17,4 @@ returns-3 c = until-start (c .before .before .before .before .before .before .ar
 
 pub distinct-before-spec : {M : Type 1} → statement M
 distinct-before-spec =
-    tie.close (tie.spec returns no-element-requires by-tree-requires enum-told returns-2 returns-3)
+    tie.close (tie.spec returns (λ c κs. search needs) (λ c κs. search needs) (λ c. search needs) returns-2 returns-3)

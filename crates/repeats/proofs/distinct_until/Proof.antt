@@ -5,24 +5,6 @@ use Rattle.repeats.proofs.Rests.{until-start, until-told}
 use Rattle.repeats.proofs.distinct_until.Statement.{statement}
 use Rattle.repeats.proofs.distinct_until.Tie as tie
 
-no-element-requires : tie.Need-no-element-requires
-no-element-requires c κs = search needs
-
-by-tree-requires : tie.Need-by-tree-requires
-by-tree-requires c κs = search needs
-
-enum-told : tie.Need-enum-told
-enum-told c = search needs
-
-enum-known-place : tie.Need-enum-known-place
-enum-known-place c = search needs
-
-distinct-before-requires : tie.Need-distinct-before-requires
-distinct-before-requires c κs = search needs
-
-enum-told-2 : tie.Need-enum-told-2
-enum-told-2 c = search needs
-
 returns : tie.Need-returns
 returns c =
     let a = c .before .before .before .before .before .args in
@@ -38,12 +20,12 @@ pub distinct-until-spec : {M : Type 1} → statement M
 distinct-until-spec =
     tie.close
     (tie.spec
-    no-element-requires
-    by-tree-requires
-    enum-told
-    enum-known-place
-    distinct-before-requires
-    enum-told-2
+    (λ c κs. search needs)
+    (λ c κs. search needs)
+    (λ c. search needs)
+    (λ c. search needs)
+    (λ c κs. search needs)
+    (λ c. search needs)
     returns
     returns-2
     returns-3)

@@ -23,41 +23,11 @@ returns c =
     let l = c .before .before .loop in
     (sym (find-member (a .tree .now) (a .k .now) (l .left) (l .r) (c .before .loop-test .taken) (c .if1 .taken)) ∙ l .inv .0, omega arith)
 
-mul-node : tie.Need-mul-node Inv-loop μ-loop
-mul-node c = search needs
-
-cell-requires : tie.Need-cell-requires Inv-loop μ-loop
-cell-requires c κs = search needs
-
 returns-2 : tie.Need-returns-2 Inv-loop μ-loop
 returns-2 c =
     let a = c .before .before .before .before .before .before .before .args in
     let l = c .before .before .before .before .loop in
     (sym (find-past (a .tree .now) (a .k .now) (l .left) (l .r) (c .before .before .before .loop-test .taken) (c .before .cell .ensures .0) (c .if2 .taken)) ∙ l .inv .0, omega arith)
-
-add-cell : tie.Need-add-cell Inv-loop μ-loop
-add-cell c = search needs
-
-cell-requires-2 : tie.Need-cell-requires-2 Inv-loop μ-loop
-cell-requires-2 c κs = search needs
-
-digit-requires : tie.Need-digit-requires Inv-loop μ-loop
-digit-requires c κs = search needs
-
-add-cell-2 : tie.Need-add-cell-2 Inv-loop μ-loop
-add-cell-2 c = search needs
-
-add-cell-3 : tie.Need-add-cell-3 Inv-loop μ-loop
-add-cell-3 c = search needs
-
-cell-requires-3 : tie.Need-cell-requires-3 Inv-loop μ-loop
-cell-requires-3 c κs = search needs
-
-sub-left : tie.Need-sub-left Inv-loop μ-loop
-sub-left c = search needs
-
-loop-less : tie.Need-loop-less Inv-loop μ-loop
-loop-less c = search needs
 
 loop-again : tie.Need-loop-again Inv-loop μ-loop
 loop-again c =
@@ -83,16 +53,16 @@ find-spec =
     μ-loop
     loop-holds
     returns
-    mul-node
-    cell-requires
+    (λ c. search needs)
+    (λ c κs. search needs)
     returns-2
-    add-cell
-    cell-requires-2
-    digit-requires
-    add-cell-2
-    add-cell-3
-    cell-requires-3
-    sub-left
-    loop-less
+    (λ c. search needs)
+    (λ c κs. search needs)
+    (λ c κs. search needs)
+    (λ c. search needs)
+    (λ c. search needs)
+    (λ c κs. search needs)
+    (λ c. search needs)
+    (λ c. search needs)
     loop-again
     returns-3)

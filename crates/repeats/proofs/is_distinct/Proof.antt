@@ -12,18 +12,6 @@ use Rattle.repeats.proofs.is_distinct.Tie as tie
 returns : tie.Need-returns
 returns c = sym (ap distinct (keys-end (c .before .before .before .args .by) (c .before .before .before .args .s .now) _ _ (c .if1 .taken)) ∙ distinct-none)
 
-no-element-requires : tie.Need-no-element-requires
-no-element-requires c κs = search needs
-
-compare-requires : tie.Need-compare-requires
-compare-requires c κs = search needs
-
-enum-known-i : tie.Need-enum-known-i
-enum-known-i c = search needs
-
-enum-told : tie.Need-enum-told
-enum-told c = search needs
-
 returns-2 : tie.Need-returns-2
 returns-2 c =
     let a = c .before .before .before .before .before .before .before .args in
@@ -37,9 +25,6 @@ returns-3 c =
     let w = left-other (a .by) (a .s .now) (c .before .before .before .before .before .before .no-element .result) (a .list .start) (a .list .stop) 16 (c .before .before .before .before .before .compare .ensures) (c .before .before .before .i .given .1) (c .if2 .taken) in
     sym (ap distinct (sym (n _)) ∙ w ∙ ap distinct (n []) ∙ distinct-none)
 
-long-distinct-requires : tie.Need-long-distinct-requires
-long-distinct-requires c κs = search needs
-
 returns-4 : tie.Need-returns-4
 returns-4 c =
     let a = c .before .before .before .before .before .before .before .before .before .before .before .args in
@@ -52,11 +37,11 @@ is-distinct-spec =
     tie.close
     (tie.spec
     returns
-    no-element-requires
-    compare-requires
-    enum-known-i
-    enum-told
+    (λ c κs. search needs)
+    (λ c κs. search needs)
+    (λ c. search needs)
+    (λ c. search needs)
     returns-2
     returns-3
-    long-distinct-requires
+    (λ c κs. search needs)
     returns-4)

@@ -5,21 +5,6 @@ use Rattle.repeats.proofs.Rests.{told-distinct, told-repeated}
 use Rattle.repeats.proofs.long_distinct.Statement.{statement}
 use Rattle.repeats.proofs.long_distinct.Tie as tie
 
-by-tree-requires : tie.Need-by-tree-requires
-by-tree-requires c κs = search needs
-
-enum-told : tie.Need-enum-told
-enum-told c = search needs
-
-enum-told-2 : tie.Need-enum-told-2
-enum-told-2 c = search needs
-
-enum-told-3 : tie.Need-enum-told-3
-enum-told-3 c = search needs
-
-compare-all-requires : tie.Need-compare-all-requires
-compare-all-requires c κs = search needs
-
 returns : tie.Need-returns
 returns c = sym (told-distinct (c .before .before .by-tree .ensures) (c .enum-told .given .1))
 
@@ -33,11 +18,11 @@ pub long-distinct-spec : {M : Type 1} → statement M
 long-distinct-spec =
     tie.close
     (tie.spec
-    by-tree-requires
-    enum-told
-    enum-told-2
-    enum-told-3
-    compare-all-requires
+    (λ c κs. search needs)
+    (λ c. search needs)
+    (λ c. search needs)
+    (λ c. search needs)
+    (λ c κs. search needs)
     returns
     returns-2
     returns-3)

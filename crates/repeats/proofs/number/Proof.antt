@@ -19,15 +19,6 @@ abbrev μ-loop : tie.MeasureT-loop
 loop-holds : tie.Need-loop-holds Inv-loop μ-loop
 loop-holds c = refl
 
-element-at-requires : tie.Need-element-at-requires Inv-loop μ-loop
-element-at-requires c κs = search needs
-
-key-requires : tie.Need-key-requires Inv-loop μ-loop
-key-requires c κs = search needs
-
-find-requires : tie.Need-find-requires Inv-loop μ-loop
-find-requires c κs = search needs
-
 returns : tie.Need-returns Inv-loop μ-loop
 returns c =
     let a = c .before .before .before .before .before .before .before .before .args in
@@ -35,12 +26,6 @@ returns c =
     sym
     (number-miss (find (a .tree .now)) (a .by) (a .s .now) (l .i) (a .stop) (c .before .before .before .element-at .ensures) (c .before .before .before .before .loop-test .taken) (c .before .before .key .ensures) (c .before .find .ensures .0) (c .if1 .taken))
     ∙ l .inv
-
-add-k : tie.Need-add-k Inv-loop μ-loop
-add-k c = search needs
-
-next-requires : tie.Need-next-requires Inv-loop μ-loop
-next-requires c κs = search needs
 
 loop-less : tie.Need-loop-less Inv-loop μ-loop
 loop-less c = omega (arith, run-on (c .before .before .before .before .before .before .before .before .before .args .s .now) (c .before .before .before .before .before .before .loop .i) (c .before .before .before .before .before .before .before .before .before .args .stop) (c .before .before .before .before .element-at .ensures) (c .before .before .before .before .before .loop-test .taken) (c .next .ensures))
@@ -66,12 +51,12 @@ number-spec =
     Inv-loop
     μ-loop
     loop-holds
-    element-at-requires
-    key-requires
-    find-requires
+    (λ c κs. search needs)
+    (λ c κs. search needs)
+    (λ c κs. search needs)
     returns
-    add-k
-    next-requires
+    (λ c. search needs)
+    (λ c κs. search needs)
     loop-less
     loop-again
     returns-2)

@@ -20,24 +20,12 @@ abbrev μ-loop : tie.MeasureT-loop
 loop-holds : tie.Need-loop-holds Inv-loop μ-loop
 loop-holds c = refl
 
-element-at-requires : tie.Need-element-at-requires Inv-loop μ-loop
-element-at-requires c κs = search needs
-
-key-requires : tie.Need-key-requires Inv-loop μ-loop
-key-requires c κs = search needs
-
-equal-requires : tie.Need-equal-requires Inv-loop μ-loop
-equal-requires c κs = search needs
-
 returns : tie.Need-returns Inv-loop μ-loop
 returns c =
     let a = c .before .before .before .before .before .before .before .before .args in
     let l = c .before .before .before .before .before .loop in
     let t = keys-turn (a .by) (a .s .now) (l .i) (a .stop) (c .before .before .before .element-at .ensures) (c .before .before .before .before .loop-test .taken) (c .before .before .key .ensures) refl in
     sym (member-hit (a .k .now) t (sym (c .before .equal .ensures) ∙ c .if1 .taken)) ∙ l .inv
-
-next-requires : tie.Need-next-requires Inv-loop μ-loop
-next-requires c κs = search needs
 
 loop-less : tie.Need-loop-less Inv-loop μ-loop
 loop-less c = omega (arith, run-on (c .before .before .before .before .before .before .before .before .before .args .s .now) (c .before .before .before .before .before .before .loop .i) (c .before .before .before .before .before .before .before .before .before .args .stop) (c .before .before .before .before .element-at .ensures) (c .before .before .before .before .before .loop-test .taken) (c .next .ensures))
@@ -62,11 +50,11 @@ occurs-spec =
     Inv-loop
     μ-loop
     loop-holds
-    element-at-requires
-    key-requires
-    equal-requires
+    (λ c κs. search needs)
+    (λ c κs. search needs)
+    (λ c κs. search needs)
     returns
-    next-requires
+    (λ c κs. search needs)
     loop-less
     loop-again
     returns-2)

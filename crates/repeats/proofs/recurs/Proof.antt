@@ -16,12 +16,6 @@ returns c =
     let k = keyOf (a .by) (a .s .now) (a .e) in
     sym (member-both k _ _ (ap (member k) (keys-end _ _ _ _ (c .before .before .if1 .taken)) ∙ member-none k) ∙ ap (member k) (keys-end _ _ _ _ (c .if2 .taken)) ∙ member-none k)
 
-key-requires : tie.Need-key-requires
-key-requires c κs = search needs
-
-occurs-requires : tie.Need-occurs-requires
-occurs-requires c κs = search needs
-
 returns-2 : tie.Need-returns-2
 returns-2 c =
     let a = c .before .before .before .before .before .args in
@@ -35,9 +29,6 @@ returns-3 c =
     let m = ap (λ (k : List ℕ). member k (keysFrom (a .by) (a .s .now) (a .at) (a .stop))) (sym (c .before .before .before .before .key .ensures)) ∙ sym (c .before .before .before .occurs .ensures) ∙ c .before .before .if3 .left in
     sym (member-both k _ _ m ∙ ap (member k) (keys-end _ _ _ _ (c .if4 .taken)) ∙ member-none k)
 
-occurs-requires-2 : tie.Need-occurs-requires-2
-occurs-requires-2 c κs = search needs
-
 returns-4 : tie.Need-returns-4
 returns-4 c =
     let a = c .before .before .before .before .before .before .before .before .args in
@@ -48,4 +39,4 @@ returns-4 c =
 pub recurs-spec : {M : Type 1} → statement M
 recurs-spec =
     tie.close
-    (tie.spec returns key-requires occurs-requires returns-2 returns-3 occurs-requires-2 returns-4)
+    (tie.spec returns (λ c κs. search needs) (λ c κs. search needs) returns-2 returns-3 (λ c κs. search needs) returns-4)

@@ -9,14 +9,8 @@ use Rattle.reply.proofs.Sizes.{length-list}
 use Rattle.reply.proofs.communities_size.Statement.{statement}
 use Rattle.reply.proofs.communities_size.Tie as tie
 
-community-count-requires : tie.Need-community-count-requires
-community-count-requires c κs = search needs
-
 returns : tie.Need-returns
 returns c = omega (arith, ap length (communities-none (c .before .before .before .args .image .now) (c .before .community-count .ensures) (c .if1 .taken)))
-
-community-octets-requires : tie.Need-community-octets-requires
-community-octets-requires c κs = search needs
 
 names-size-requires : tie.Need-names-size-requires
 names-size-requires c κs = omega (
@@ -42,9 +36,9 @@ pub communities-size-spec : {M : Type 1} → statement M
 communities-size-spec =
     tie.close
     (tie.spec
-    community-count-requires
+    (λ c κs. search needs)
     returns
-    community-octets-requires
+    (λ c κs. search needs)
     names-size-requires
     element-size-requires
     returns-2)

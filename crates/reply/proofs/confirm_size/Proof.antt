@@ -6,12 +6,6 @@ use Rattle.reply.proofs.Sizes.{community-size, adjust-size}
 use Rattle.reply.proofs.confirm_size.Statement.{statement}
 use Rattle.reply.proofs.confirm_size.Tie as tie
 
-contents-size-requires : tie.Need-contents-size-requires
-contents-size-requires c κs = search needs
-
-element-size-requires : tie.Need-element-size-requires
-element-size-requires c κs = search needs
-
 returns : tie.Need-returns
 returns c =
     let a = c .before .before .before .args in
@@ -19,4 +13,4 @@ returns c =
     (λ status. e ∙ sym (community-size (a .msgref .now) status), e ∙ sym (adjust-size (a .msgref .now)))
 
 pub confirm-size-spec : {M : Type 1} → statement M
-confirm-size-spec = tie.close (tie.spec contents-size-requires element-size-requires returns)
+confirm-size-spec = tie.close (tie.spec (λ c κs. search needs) (λ c κs. search needs) returns)

@@ -6,15 +6,6 @@ use Rattle.reply.proofs.Sizes.{error-size}
 use Rattle.reply.proofs.error_size.Statement.{statement}
 use Rattle.reply.proofs.error_size.Tie as tie
 
-add-contents-size : tie.Need-add-contents-size
-add-contents-size c = search needs
-
-contents-size-requires : tie.Need-contents-size-requires
-contents-size-requires c κs = search needs
-
-element-size-requires : tie.Need-element-size-requires
-element-size-requires c κs = search needs
-
 returns : tie.Need-returns
 returns c =
     λ status.
@@ -23,4 +14,4 @@ returns c =
 
 pub error-size-spec : {M : Type 1} → statement M
 error-size-spec =
-    tie.close (tie.spec add-contents-size contents-size-requires element-size-requires returns)
+    tie.close (tie.spec (λ c. search needs) (λ c κs. search needs) (λ c κs. search needs) returns)

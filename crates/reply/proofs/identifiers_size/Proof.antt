@@ -9,15 +9,9 @@ use Rattle.reply.proofs.Sizes.{length-list}
 use Rattle.reply.proofs.identifiers_size.Statement.{statement}
 use Rattle.reply.proofs.identifiers_size.Tie as tie
 
-anchor-count-requires : tie.Need-anchor-count-requires
-anchor-count-requires c κs = search needs
-
 returns : tie.Need-returns
 returns c =
     ap length (sym (identifiers-none (c .before .before .before .args .image .now) (c .before .anchor-count .ensures) (c .if1 .taken)))
-
-first-record-requires : tie.Need-first-record-requires
-first-record-requires c κs = search needs
 
 key-identifiers-size-requires : tie.Need-key-identifiers-size-requires
 key-identifiers-size-requires c κs = omega (
@@ -43,9 +37,9 @@ pub identifiers-size-spec : {M : Type 1} → statement M
 identifiers-size-spec =
     tie.close
     (tie.spec
-    anchor-count-requires
+    (λ c κs. search needs)
     returns
-    first-record-requires
+    (λ c κs. search needs)
     key-identifiers-size-requires
     element-size-requires
     returns-2)

@@ -19,12 +19,6 @@ abbrev μ-loop : tie.MeasureT-loop
 loop-holds : tie.Need-loop-holds Inv-loop μ-loop
 loop-holds c = omega arith
 
-record-at-requires : tie.Need-record-at-requires Inv-loop μ-loop
-record-at-requires c κs = search needs
-
-identifier-of-requires : tie.Need-identifier-of-requires Inv-loop μ-loop
-identifier-of-requires c κs = search needs
-
 element-size-requires : tie.Need-element-size-requires Inv-loop μ-loop
 element-size-requires c κs = omega (
   arith,
@@ -44,15 +38,6 @@ add-size c = record {
         (c .before .identifier-of .ensures ∙ ap identifierIn (c .before .before .record-at .ensures)) refl,
   );
 }
-
-record-end-requires : tie.Need-record-end-requires Inv-loop μ-loop
-record-end-requires c κs = search needs
-
-sub-left : tie.Need-sub-left Inv-loop μ-loop
-sub-left c = search needs
-
-loop-less : tie.Need-loop-less Inv-loop μ-loop
-loop-less c = search needs
 
 loop-again : tie.Need-loop-again Inv-loop μ-loop
 loop-again c = omega (
@@ -76,12 +61,12 @@ key-identifiers-size-spec =
     Inv-loop
     μ-loop
     loop-holds
-    record-at-requires
-    identifier-of-requires
+    (λ c κs. search needs)
+    (λ c κs. search needs)
     element-size-requires
     add-size
-    record-end-requires
-    sub-left
-    loop-less
+    (λ c κs. search needs)
+    (λ c. search needs)
+    (λ c. search needs)
     loop-again
     returns)

@@ -12,19 +12,10 @@ contents-size-requires c κs =
     let a = c .before .before .args in
     omega (arith, adjust-size (a .msgref .now))
 
-slice-aggregate-none : tie.Need-slice-aggregate-none
-slice-aggregate-none c = search needs
-
-slice-aggregate-put-reply : tie.Need-slice-aggregate-put-reply
-slice-aggregate-put-reply c = search needs
-
 put-reply-requires : tie.Need-put-reply-requires
 put-reply-requires c κs =
     let a = c .before .before .before .before .before .before .args in
     omega (arith, ap length (adjust-parts (a .msgref .now) (c .before .before .before .contents-size .ensures .0)))
-
-same-length : tie.Need-same-length
-same-length c = search needs
 
 returns : tie.Need-returns
 returns c =
@@ -36,8 +27,8 @@ put-adjust-confirm-spec =
     tie.close
     (tie.spec
     contents-size-requires
-    slice-aggregate-none
-    slice-aggregate-put-reply
+    (λ c. search needs)
+    (λ c. search needs)
     put-reply-requires
-    same-length
+    (λ c. search needs)
     returns)

@@ -8,16 +8,10 @@ use Rattle.reply.proofs.TwoParts.{header-fits, members-fit, list-writte
 use Rattle.reply.proofs.put_communities.Statement.{statement}
 use Rattle.reply.proofs.put_communities.Tie as tie
 
-community-count-requires : tie.Need-community-count-requires
-community-count-requires c κs = search needs
-
 returns : tie.Need-returns
 returns c =
     let a = c .before .before .before .before .args in
     nothing-written (a .buf .now) (a .at) (communities-none (a .image .now) (c .before .community-count .ensures) (c .if1 .taken))
-
-community-octets-requires : tie.Need-community-octets-requires
-community-octets-requires c κs = search needs
 
 names-size-requires : tie.Need-names-size-requires
 names-size-requires c κs =
@@ -40,9 +34,6 @@ put-names-requires c κs =
     (c .before .before .before .before .before .before .before .if1 .left) (c .before .before .before .before .before .before .community-octets .ensures)) (c .before .before .before .before .names-size .ensures)
     (c .before .before .before .put-header .ensures)
 
-same-length : tie.Need-same-length
-same-length c = search needs
-
 returns-2 : tie.Need-returns-2
 returns-2 c =
     let a = c .before .before .before .before .before .before .before .before .before .before .before .before .before .before .args in
@@ -55,11 +46,11 @@ pub put-communities-spec : {M : Type 1} → statement M
 put-communities-spec =
     tie.close
     (tie.spec
-    community-count-requires
+    (λ c κs. search needs)
     returns
-    community-octets-requires
+    (λ c κs. search needs)
     names-size-requires
     put-header-requires
     put-names-requires
-    same-length
+    (λ c. search needs)
     returns-2)

@@ -12,22 +12,10 @@ contents-size-requires c κs =
     let a = c .before .before .args in
     omega (arith, community-size (a .msgref .now) (a .status))
 
-slice-aggregate-none : tie.Need-slice-aggregate-none
-slice-aggregate-none c = search needs
-
-cast-t9 : tie.Need-cast-t9
-cast-t9 c = search needs
-
-slice-aggregate-put-reply : tie.Need-slice-aggregate-put-reply
-slice-aggregate-put-reply c = search needs
-
 put-reply-requires : tie.Need-put-reply-requires
 put-reply-requires c κs =
     let a = c .before .before .before .before .before .before .before .args in
     omega (arith, ap length (community-parts (a .msgref .now) (a .status) (c .before .before .before .before .contents-size .ensures .0)))
-
-same-length : tie.Need-same-length
-same-length c = search needs
 
 returns : tie.Need-returns
 returns c =
@@ -39,9 +27,9 @@ put-community-confirm-spec =
     tie.close
     (tie.spec
     contents-size-requires
-    slice-aggregate-none
-    cast-t9
-    slice-aggregate-put-reply
+    (λ c. search needs)
+    (λ c. search needs)
+    (λ c. search needs)
     put-reply-requires
-    same-length
+    (λ c. search needs)
     returns)

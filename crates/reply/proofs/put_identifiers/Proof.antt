@@ -8,16 +8,10 @@ use Rattle.reply.proofs.TwoParts.{header-fits, members-fit, list-writte
 use Rattle.reply.proofs.put_identifiers.Statement.{statement}
 use Rattle.reply.proofs.put_identifiers.Tie as tie
 
-anchor-count-requires : tie.Need-anchor-count-requires
-anchor-count-requires c κs = search needs
-
 returns : tie.Need-returns
 returns c =
     let a = c .before .before .before .before .args in
     nothing-written (a .buf .now) (a .at) (identifiers-none (a .image .now) (c .before .anchor-count .ensures) (c .if1 .taken))
-
-first-record-requires : tie.Need-first-record-requires
-first-record-requires c κs = search needs
 
 key-identifiers-size-requires : tie.Need-key-identifiers-size-requires
 key-identifiers-size-requires c κs =
@@ -40,9 +34,6 @@ put-key-identifiers-requires c κs =
     (c .before .before .before .before .before .before .before .if1 .left) (c .before .before .before .before .before .before .first-record .ensures)) (c .before .before .before .before .key-identifiers-size .ensures)
     (c .before .before .before .put-header .ensures)
 
-same-length : tie.Need-same-length
-same-length c = search needs
-
 returns-2 : tie.Need-returns-2
 returns-2 c =
     let a = c .before .before .before .before .before .before .before .before .before .before .before .before .before .before .args in
@@ -55,11 +46,11 @@ pub put-identifiers-spec : {M : Type 1} → statement M
 put-identifiers-spec =
     tie.close
     (tie.spec
-    anchor-count-requires
+    (λ c κs. search needs)
     returns
-    first-record-requires
+    (λ c κs. search needs)
     key-identifiers-size-requires
     put-header-requires
     put-key-identifiers-requires
-    same-length
+    (λ c. search needs)
     returns-2)

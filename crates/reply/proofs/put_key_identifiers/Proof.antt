@@ -19,12 +19,6 @@ abbrev μ-loop : tie.MeasureT-loop
 loop-holds : tie.Need-loop-holds Inv-loop μ-loop
 loop-holds c = left-start _ _ _
 
-record-at-requires : tie.Need-record-at-requires Inv-loop μ-loop
-record-at-requires c κs = search needs
-
-identifier-of-requires : tie.Need-identifier-of-requires Inv-loop μ-loop
-identifier-of-requires c κs = search needs
-
 put-element-requires : tie.Need-put-element-requires Inv-loop μ-loop
 put-element-requires c κs =
     let a = c .before .before .before .before .before .before .before .args in
@@ -33,15 +27,6 @@ put-element-requires c κs =
     let e = identifiers-turn (a .image .now) (l .q) (l .left) (c .before .before .before .loop-test .taken) x refl in
     left-fits (a .buf .now) (a .at) _ (c .before .before .before .before .before .before .before .pre) (l .inv)
     (element 0x04 (c .identifier-of .result .now)) _ e
-
-record-end-requires : tie.Need-record-end-requires Inv-loop μ-loop
-record-end-requires c κs = search needs
-
-sub-left : tie.Need-sub-left Inv-loop μ-loop
-sub-left c = search needs
-
-loop-less : tie.Need-loop-less Inv-loop μ-loop
-loop-less c = search needs
 
 loop-again : tie.Need-loop-again Inv-loop μ-loop
 loop-again c =
@@ -70,12 +55,12 @@ put-key-identifiers-spec =
     Inv-loop
     μ-loop
     loop-holds
-    record-at-requires
-    identifier-of-requires
+    (λ c κs. search needs)
+    (λ c κs. search needs)
     put-element-requires
-    record-end-requires
-    sub-left
-    loop-less
+    (λ c κs. search needs)
+    (λ c. search needs)
+    (λ c. search needs)
     loop-again
     same-length
     returns)

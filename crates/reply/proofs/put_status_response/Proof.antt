@@ -12,16 +12,10 @@ contents-size-requires c κs =
     let a = c .before .before .before .args in
     omega (arith, response-size (a .msgref .now) (a .image .now))
 
-slice-aggregate-none : tie.Need-slice-aggregate-none
-slice-aggregate-none c = search needs
-
 put-reply-requires : tie.Need-put-reply-requires
 put-reply-requires c κs =
     let w = c .before .before .before .before .before .before in
     omega (arith, ap length (response-parts (w .args .msgref .now) (w .args .image .now) (w .pre .0) (c .before .before .contents-size .ensures .0)))
-
-same-length : tie.Need-same-length
-same-length c = search needs
 
 returns : tie.Need-returns
 returns c =
@@ -34,7 +28,7 @@ put-status-response-spec =
     tie.close
     (tie.spec
     contents-size-requires
-    slice-aggregate-none
+    (λ c. search needs)
     put-reply-requires
-    same-length
+    (λ c. search needs)
     returns)

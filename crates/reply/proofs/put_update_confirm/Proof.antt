@@ -16,16 +16,10 @@ contents-size-requires c κs =
     let a = c .before .before .before .args in
     omega (arith, update-size (a .msgref .now) (a .codes .now))
 
-slice-aggregate-none : tie.Need-slice-aggregate-none
-slice-aggregate-none c = search needs
-
 put-reply-requires : tie.Need-put-reply-requires
 put-reply-requires c κs =
     let a = c .before .before .before .before .before .before .args in
     omega (arith, ap length (update-parts (a .msgref .now) (a .codes .now) (c .before .before .contents-size .ensures .0)))
-
-same-length : tie.Need-same-length
-same-length c = search needs
 
 returns : tie.Need-returns
 returns c =
@@ -38,7 +32,7 @@ put-update-confirm-spec =
     (tie.spec
     mul-m
     contents-size-requires
-    slice-aggregate-none
+    (λ c. search needs)
     put-reply-requires
-    same-length
+    (λ c. search needs)
     returns)

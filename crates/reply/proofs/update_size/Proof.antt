@@ -8,15 +8,6 @@ use Rattle.reply.proofs.Sizes.{updates-size}
 use Rattle.reply.proofs.update_size.Statement.{statement}
 use Rattle.reply.proofs.update_size.Tie as tie
 
-mul-contents-size : tie.Need-mul-contents-size
-mul-contents-size c = search needs
-
-contents-size-requires : tie.Need-contents-size-requires
-contents-size-requires c κs = search needs
-
-element-size-requires : tie.Need-element-size-requires
-element-size-requires c κs = search needs
-
 returns : tie.Need-returns
 returns c =
     λ l e.
@@ -27,4 +18,4 @@ returns c =
 
 pub update-size-spec : {M : Type 1} → statement M
 update-size-spec =
-    tie.close (tie.spec mul-contents-size contents-size-requires element-size-requires returns)
+    tie.close (tie.spec (λ c. search needs) (λ c κs. search needs) (λ c κs. search needs) returns)

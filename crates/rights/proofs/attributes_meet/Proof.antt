@@ -20,17 +20,8 @@ abbrev μ-loop : tie.MeasureT-loop
 loop-holds : tie.Need-loop-holds Inv-loop μ-loop
 loop-holds c = refl
 
-element-at-requires : tie.Need-element-at-requires Inv-loop μ-loop
-element-at-requires c κs = search needs
-
-attribute-meets-requires : tie.Need-attribute-meets-requires Inv-loop μ-loop
-attribute-meets-requires c κs = search needs
-
 returns : tie.Need-returns Inv-loop μ-loop
 returns c = search (meet-fails, needs)
-
-behind-requires : tie.Need-behind-requires Inv-loop μ-loop
-behind-requires c κs = search needs
 
 loop-less : tie.Need-loop-less Inv-loop μ-loop
 loop-less c = search (shorter, needs)
@@ -48,10 +39,10 @@ attributes-meet-spec =
     Inv-loop
     μ-loop
     loop-holds
-    element-at-requires
-    attribute-meets-requires
+    (λ c κs. search needs)
+    (λ c κs. search needs)
     returns
-    behind-requires
+    (λ c κs. search needs)
     loop-less
     loop-again
     returns-2)

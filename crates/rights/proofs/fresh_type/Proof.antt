@@ -17,21 +17,9 @@ abbrev μ-loop : tie.MeasureT-loop
 loop-holds : tie.Need-loop-holds Inv-loop μ-loop
 loop-holds c = omega arith
 
-cast-t6 : tie.Need-cast-t6 Inv-loop μ-loop
-cast-t6 c = search needs
-
-slice-aggregate-is-listed-type : tie.Need-slice-aggregate-is-listed-type Inv-loop μ-loop
-slice-aggregate-is-listed-type c = search needs
-
-is-listed-type-requires : tie.Need-is-listed-type-requires Inv-loop μ-loop
-is-listed-type-requires c κs = search needs
-
 returns : tie.Need-returns Inv-loop μ-loop
 unfolding oid
 returns c = search (type-fresh, needs)
-
-add-n : tie.Need-add-n Inv-loop μ-loop
-add-n c = search needs
 
 loop-less : tie.Need-loop-less Inv-loop μ-loop
 loop-less c = omega arith
@@ -56,11 +44,11 @@ fresh-type-spec =
     Inv-loop
     μ-loop
     loop-holds
-    cast-t6
-    slice-aggregate-is-listed-type
-    is-listed-type-requires
+    (λ c. search needs)
+    (λ c. search needs)
+    (λ c κs. search needs)
     returns
-    add-n
+    (λ c. search needs)
     loop-less
     loop-again
     returns-2)

@@ -17,21 +17,9 @@ abbrev μ-loop : tie.MeasureT-loop
 loop-holds : tie.Need-loop-holds Inv-loop μ-loop
 loop-holds c = omega arith
 
-cast-t6 : tie.Need-cast-t6 Inv-loop μ-loop
-cast-t6 c = search needs
-
-slice-aggregate-lists : tie.Need-slice-aggregate-lists Inv-loop μ-loop
-slice-aggregate-lists c = search needs
-
-lists-requires : tie.Need-lists-requires Inv-loop μ-loop
-lists-requires c κs = search needs
-
 returns : tie.Need-returns Inv-loop μ-loop
 unfolding integer
 returns c = search (value-fresh, needs)
-
-add-n : tie.Need-add-n Inv-loop μ-loop
-add-n c = search needs
 
 loop-less : tie.Need-loop-less Inv-loop μ-loop
 loop-less c = omega arith
@@ -50,11 +38,11 @@ fresh-value-spec =
     Inv-loop
     μ-loop
     loop-holds
-    cast-t6
-    slice-aggregate-lists
-    lists-requires
+    (λ c. search needs)
+    (λ c. search needs)
+    (λ c κs. search needs)
     returns
-    add-n
+    (λ c. search needs)
     loop-less
     loop-again
     returns-2)

@@ -4,23 +4,8 @@ use Rattle.rights.proofs.Places.{governing-own, governing-any}
 use Rattle.rights.proofs.governing.Statement.{statement}
 use Rattle.rights.proofs.governing.Tie as tie
 
-entries-requires : tie.Need-entries-requires
-entries-requires c κs = search needs
-
-first-of-type-requires : tie.Need-first-of-type-requires
-first-of-type-requires c κs = search needs
-
-enum-known-e : tie.Need-enum-known-e
-enum-known-e c = search needs
-
 returns : tie.Need-returns
 returns c = search (governing-own, needs)
-
-enum-told : tie.Need-enum-told
-enum-told c = search needs
-
-any-entry-requires : tie.Need-any-entry-requires
-any-entry-requires c κs = search needs
 
 returns-2 : tie.Need-returns-2
 returns-2 c = search (governing-any, needs)
@@ -29,10 +14,10 @@ pub governing-spec : {M : Type 1} → statement M
 governing-spec =
     tie.close
     (tie.spec
-    entries-requires
-    first-of-type-requires
-    enum-known-e
+    (λ c κs. search needs)
+    (λ c κs. search needs)
+    (λ c. search needs)
     returns
-    enum-told
-    any-entry-requires
+    (λ c. search needs)
+    (λ c κs. search needs)
     returns-2)

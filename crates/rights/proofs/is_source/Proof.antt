@@ -4,11 +4,8 @@ use Rattle.rights.proofs.Attributes.{source-found}
 use Rattle.rights.proofs.is_source.Statement.{statement}
 use Rattle.rights.proofs.is_source.Tie as tie
 
-field-requires : tie.Need-field-requires
-field-requires c κs = search needs
-
 returns : tie.Need-returns
 returns c = search (source-found, needs)
 
 pub is-source-spec : {M : Type 1} → statement M
-is-source-spec = tie.close (tie.spec field-requires returns)
+is-source-spec = tie.close (tie.spec (λ c κs. search needs) returns)

@@ -4,14 +4,8 @@ use Rattle.rights.proofs.Places.{type-found}
 use Rattle.rights.proofs.type_in.Statement.{statement}
 use Rattle.rights.proofs.type_in.Tie as tie
 
-field-requires : tie.Need-field-requires
-field-requires c κs = search needs
-
-contents-requires : tie.Need-contents-requires
-contents-requires c κs = search needs
-
 returns : tie.Need-returns
 returns c = search (type-found, needs)
 
 pub type-in-spec : {M : Type 1} → statement M
-type-in-spec = tie.close (tie.spec field-requires contents-requires returns)
+type-in-spec = tie.close (tie.spec (λ c κs. search needs) (λ c κs. search needs) returns)

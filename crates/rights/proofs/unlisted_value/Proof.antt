@@ -18,26 +18,11 @@ Inv-loop signer a new stop i₀ i =
 abbrev μ-loop : tie.MeasureT-loop
 μ-loop signer a new stop i₀ i = stop - i
 
-field-requires : tie.Need-field-requires Inv-loop μ-loop
-field-requires c κs = search needs
-
 loop-holds : tie.Need-loop-holds Inv-loop μ-loop
 loop-holds c = refl
 
-element-at-requires : tie.Need-element-at-requires Inv-loop μ-loop
-element-at-requires c κs = search needs
-
-whole-requires : tie.Need-whole-requires Inv-loop μ-loop
-whole-requires c κs = search needs
-
-lists-requires : tie.Need-lists-requires Inv-loop μ-loop
-lists-requires c κs = search needs
-
 returns : tie.Need-returns Inv-loop μ-loop
 returns c = search (unlisted-here, needs)
-
-behind-requires : tie.Need-behind-requires Inv-loop μ-loop
-behind-requires c κs = search needs
 
 loop-less : tie.Need-loop-less Inv-loop μ-loop
 loop-less c = search (shorter, needs)
@@ -54,13 +39,13 @@ unlisted-value-spec =
     (tie.spec
     Inv-loop
     μ-loop
-    field-requires
+    (λ c κs. search needs)
     loop-holds
-    element-at-requires
-    whole-requires
-    lists-requires
+    (λ c κs. search needs)
+    (λ c κs. search needs)
+    (λ c κs. search needs)
     returns
-    behind-requires
+    (λ c κs. search needs)
     loop-less
     loop-again
     returns-2)

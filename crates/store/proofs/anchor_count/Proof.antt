@@ -4,15 +4,9 @@ use Rattle.store.specs.Parts.{anchorCount}
 use Rattle.store.proofs.anchor_count.Statement.{statement}
 use Rattle.store.proofs.anchor_count.Tie as tie
 
-anchor-place-requires : tie.Need-anchor-place-requires
-anchor-place-requires c κs = search needs
-
-octet-at-requires : tie.Need-octet-at-requires
-octet-at-requires c κs = search needs
-
 returns : tie.Need-returns
 unfolding anchorCount
 returns c = rw (c .octet-at .ensures .0, c .before .anchor-place .ensures .0)
 
 pub anchor-count-spec : {M : Type 1} → statement M
-anchor-count-spec = tie.close (tie.spec anchor-place-requires octet-at-requires returns)
+anchor-count-spec = tie.close (tie.spec (λ c κs. search needs) (λ c κs. search needs) returns)

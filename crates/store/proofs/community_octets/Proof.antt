@@ -5,15 +5,6 @@ use Rattle.store.specs.Parts.{communityPlace, communityOctets}
 use Rattle.store.proofs.community_octets.Statement.{statement}
 use Rattle.store.proofs.community_octets.Tie as tie
 
-community-place-requires : tie.Need-community-place-requires
-community-place-requires c κs = search needs
-
-behind-requires : tie.Need-behind-requires
-behind-requires c κs = search needs
-
-behind-requires-2 : tie.Need-behind-requires-2
-behind-requires-2 c κs = search needs
-
 returns : tie.Need-returns
 unfolding communityOctets
 returns c =
@@ -22,4 +13,4 @@ returns c =
 
 pub community-octets-spec : {M : Type 1} → statement M
 community-octets-spec =
-    tie.close (tie.spec community-place-requires behind-requires behind-requires-2 returns)
+    tie.close (tie.spec (λ c κs. search needs) (λ c κs. search needs) (λ c κs. search needs) returns)

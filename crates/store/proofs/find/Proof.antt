@@ -4,15 +4,6 @@ use Rattle.store.proofs.Walk.{records-of}
 use Rattle.store.proofs.find.Statement.{statement}
 use Rattle.store.proofs.find.Tie as tie
 
-first-record-requires : tie.Need-first-record-requires
-first-record-requires c κs = search needs
-
-anchor-count-requires : tie.Need-anchor-count-requires
-anchor-count-requires c κs = search needs
-
-find-from-requires : tie.Need-find-from-requires
-find-from-requires c κs = search needs
-
 returns : tie.Need-returns
 returns c =
     rw (
@@ -24,4 +15,4 @@ returns c =
 
 pub find-spec : {M : Type 1} → statement M
 find-spec =
-    tie.close (tie.spec first-record-requires anchor-count-requires find-from-requires returns)
+    tie.close (tie.spec (λ c κs. search needs) (λ c κs. search needs) (λ c κs. search needs) returns)

@@ -23,15 +23,6 @@ loop-holds c =
     let z : a .n - 0 ≡ a .n = omega arith in
     (omega arith, ap (λ (m : ℕ). firstFrom 0 (isSought (a .by) (a .wanted .now)) (infosFrom m (drop (a .p) (a .s .now)))) z)
 
-record-at-requires : tie.Need-record-at-requires Inv-loop μ-loop
-record-at-requires c κs = search needs
-
-info-of-requires : tie.Need-info-of-requires Inv-loop μ-loop
-info-of-requires c κs = search needs
-
-is-sought-requires : tie.Need-is-sought-requires Inv-loop μ-loop
-is-sought-requires c κs = search needs
-
 returns : tie.Need-returns Inv-loop μ-loop
 returns c =
     let a = c .before .before .before .before .before .before .before .before .args in
@@ -40,15 +31,6 @@ returns c =
     let e = ap (λ (r : List ℕ). t (infoIn r)) (sym (c .before .before .before .record-at .ensures)) ∙ ap t (sym (c .before .before .info-of .ensures))
     ∙ sym (c .before .is-sought .ensures) ∙ c .if1 .taken in
     sym (found-here t (a .s .now) (l .q) (l .i) (a .n) (c .before .before .before .before .loop-test .taken) e) ∙ l .inv .1
-
-record-end-requires : tie.Need-record-end-requires Inv-loop μ-loop
-record-end-requires c κs = search needs
-
-add-i : tie.Need-add-i Inv-loop μ-loop
-add-i c = search needs
-
-loop-less : tie.Need-loop-less Inv-loop μ-loop
-loop-less c = search needs
 
 loop-again : tie.Need-loop-again Inv-loop μ-loop
 loop-again c =
@@ -76,12 +58,12 @@ find-from-spec =
     Inv-loop
     μ-loop
     loop-holds
-    record-at-requires
-    info-of-requires
-    is-sought-requires
+    (λ c κs. search needs)
+    (λ c κs. search needs)
+    (λ c κs. search needs)
     returns
-    record-end-requires
-    add-i
-    loop-less
+    (λ c κs. search needs)
+    (λ c. search needs)
+    (λ c. search needs)
     loop-again
     returns-2)

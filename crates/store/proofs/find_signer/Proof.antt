@@ -26,12 +26,6 @@ Inv-loop image verdict wanted p₀ left₀ i₀ seen₀ p left i seen =
 abbrev μ-loop : tie.MeasureT-loop
 μ-loop image verdict wanted p₀ left₀ i₀ seen₀ p left i seen = left
 
-first-record-requires : tie.Need-first-record-requires Inv-loop μ-loop
-first-record-requires c κs = search needs
-
-anchor-count-requires : tie.Need-anchor-count-requires Inv-loop μ-loop
-anchor-count-requires c κs = search needs
-
 loop-holds : tie.Need-loop-holds Inv-loop μ-loop
 unfolding signer
 loop-holds c =
@@ -41,30 +35,6 @@ loop-holds c =
           (ap₂ (λ (n p : ℕ). recordsFrom n (drop p (a .image .now))) (c .anchor-count .ensures) (c .before .first-record .ensures)
           ∙ sym (records-of (a .image .now))),
     )
-
-record-at-requires : tie.Need-record-at-requires Inv-loop μ-loop
-record-at-requires c κs = search needs
-
-identifier-of-requires : tie.Need-identifier-of-requires Inv-loop μ-loop
-identifier-of-requires c κs = search needs
-
-equal-requires : tie.Need-equal-requires Inv-loop μ-loop
-equal-requires c κs = search needs
-
-is-verified-requires : tie.Need-is-verified-requires Inv-loop μ-loop
-is-verified-requires c κs = search needs
-
-record-end-requires : tie.Need-record-end-requires Inv-loop μ-loop
-record-end-requires c κs = search needs
-
-add-i : tie.Need-add-i Inv-loop μ-loop
-add-i c = search needs
-
-sub-left : tie.Need-sub-left Inv-loop μ-loop
-sub-left c = search needs
-
-loop-less : tie.Need-loop-less Inv-loop μ-loop
-loop-less c = search needs
 
 loop-again : tie.Need-loop-again Inv-loop μ-loop
 loop-again c =
@@ -130,17 +100,17 @@ find-signer-spec =
     (tie.spec
     Inv-loop
     μ-loop
-    first-record-requires
-    anchor-count-requires
+    (λ c κs. search needs)
+    (λ c κs. search needs)
     loop-holds
-    record-at-requires
-    identifier-of-requires
-    equal-requires
-    is-verified-requires
-    record-end-requires
-    add-i
-    sub-left
-    loop-less
+    (λ c κs. search needs)
+    (λ c κs. search needs)
+    (λ c κs. search needs)
+    (λ c κs. search needs)
+    (λ c κs. search needs)
+    (λ c. search needs)
+    (λ c. search needs)
+    (λ c. search needs)
     loop-again
     returns
     returns-2

@@ -18,12 +18,6 @@ abbrev μ-loop : tie.MeasureT-loop
 loop-holds : tie.Need-loop-holds Inv-loop μ-loop
 loop-holds c = refl
 
-name-at-requires : tie.Need-name-at-requires Inv-loop μ-loop
-name-at-requires c κs = search needs
-
-equal-requires : tie.Need-equal-requires Inv-loop μ-loop
-equal-requires c κs = search needs
-
 returns : tie.Need-returns Inv-loop μ-loop
 returns c =
     let a = c .before .before .before .before .before .before .before .args in
@@ -31,15 +25,6 @@ returns c =
     let w = a .wanted .now in
     let e = ap (same w) (sym (c .before .before .name-at .ensures)) ∙ sym (c .before .equal .ensures) ∙ c .if1 .taken in
     sym (name-here (a .s .now) w (l .q) (l .more) (c .before .before .before .loop-test .taken) e) ∙ l .inv
-
-name-end-requires : tie.Need-name-end-requires Inv-loop μ-loop
-name-end-requires c κs = search needs
-
-sub-more : tie.Need-sub-more Inv-loop μ-loop
-sub-more c = search needs
-
-loop-less : tie.Need-loop-less Inv-loop μ-loop
-loop-less c = search needs
 
 loop-again : tie.Need-loop-again Inv-loop μ-loop
 loop-again c =
@@ -64,11 +49,11 @@ has-name-spec =
     Inv-loop
     μ-loop
     loop-holds
-    name-at-requires
-    equal-requires
+    (λ c κs. search needs)
+    (λ c κs. search needs)
     returns
-    name-end-requires
-    sub-more
-    loop-less
+    (λ c κs. search needs)
+    (λ c. search needs)
+    (λ c. search needs)
     loop-again
     returns-2)

@@ -4,18 +4,9 @@ use Rattle.store.specs.Parts.{hwTypeIn}
 use Rattle.store.proofs.hw_type.Statement.{statement}
 use Rattle.store.proofs.hw_type.Tie as tie
 
-octet-at-requires : tie.Need-octet-at-requires
-octet-at-requires c κs = search needs
-
-add-part : tie.Need-add-part
-add-part c = search needs
-
-part-requires : tie.Need-part-requires
-part-requires c κs = search needs
-
 returns : tie.Need-returns
 unfolding hwTypeIn
 returns c = rw (c .part .ensures, c .before .octet-at .ensures .0)
 
 pub hw-type-spec : {M : Type 1} → statement M
-hw-type-spec = tie.close (tie.spec octet-at-requires add-part part-requires returns)
+hw-type-spec = tie.close (tie.spec (λ c κs. search needs) (λ c. search needs) (λ c κs. search needs) returns)

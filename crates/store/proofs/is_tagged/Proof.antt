@@ -5,22 +5,10 @@ use Rattle.store.proofs.Walk.{untagged, tagged}
 use Rattle.store.proofs.is_tagged.Statement.{statement}
 use Rattle.store.proofs.is_tagged.Tie as tie
 
-octet-at-requires : tie.Need-octet-at-requires
-octet-at-requires c κs = search needs
-
 returns : tie.Need-returns
 returns c =
     let e = c .before .octet-at .ensures .0 in
     sym (untagged _ (c .before .before .before .before .args .key .now) (λ h. c .if1 .taken (e ∙ h)))
-
-behind-requires : tie.Need-behind-requires
-behind-requires c κs = search needs
-
-behind-requires-2 : tie.Need-behind-requires-2
-behind-requires-2 c κs = search needs
-
-equal-requires : tie.Need-equal-requires
-equal-requires c κs = search needs
 
 returns-2 : tie.Need-returns-2
 returns-2 c =
@@ -36,4 +24,4 @@ returns-2 c =
 pub is-tagged-spec : {M : Type 1} → statement M
 is-tagged-spec =
     tie.close
-    (tie.spec octet-at-requires returns behind-requires behind-requires-2 equal-requires returns-2)
+    (tie.spec (λ c κs. search needs) returns (λ c κs. search needs) (λ c κs. search needs) (λ c κs. search needs) returns-2)

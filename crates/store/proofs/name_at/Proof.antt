@@ -5,19 +5,10 @@ use Rattle.store.proofs.Walk.{part-drop}
 use Rattle.store.proofs.name_at.Statement.{statement}
 use Rattle.store.proofs.name_at.Tie as tie
 
-name-end-requires : tie.Need-name-end-requires
-name-end-requires c κs = search needs
-
-part-requires : tie.Need-part-requires
-part-requires c κs = search needs
-
-behind-requires : tie.Need-behind-requires
-behind-requires c κs = search needs
-
 returns : tie.Need-returns
 returns c =
     let a = c .before .before .before .before .args in
     rw (c .behind .ensures, c .before .part .ensures, c .before .before .name-end .ensures) (part-drop (a .s .now) (a .p) (nameEnd (a .s .now) (a .p)) 1)
 
 pub name-at-spec : {M : Type 1} → statement M
-name-at-spec = tie.close (tie.spec name-end-requires part-requires behind-requires returns)
+name-at-spec = tie.close (tie.spec (λ c κs. search needs) (λ c κs. search needs) (λ c κs. search needs) returns)

@@ -4,12 +4,6 @@ use Rattle.store.proofs.Walk.{number-given, number-absent}
 use Rattle.store.proofs.number_of.Statement.{statement}
 use Rattle.store.proofs.number_of.Tie as tie
 
-octet-at-requires : tie.Need-octet-at-requires
-octet-at-requires c κs = search needs
-
-get-be-requires : tie.Need-get-be-requires
-get-be-requires c κs = search needs
-
 returns : tie.Need-returns
 returns c =
     number-given (c .before .before .before .before .args .row .now) (c .before .before .octet-at .ensures .0) (c .before .if1 .taken)
@@ -19,4 +13,4 @@ returns-2 : tie.Need-returns-2
 returns-2 c = number-absent (c .before .before .before .args .row .now) (c .before .octet-at .ensures .0) (c .if1 .left)
 
 pub number-of-spec : {M : Type 1} → statement M
-number-of-spec = tie.close (tie.spec octet-at-requires get-be-requires returns returns-2)
+number-of-spec = tie.close (tie.spec (λ c κs. search needs) (λ c κs. search needs) returns returns-2)

@@ -14,23 +14,11 @@ Inv-loop image position p₀ i₀ p i = (i ≤ position) × (recordPlace image p
 abbrev μ-loop : tie.MeasureT-loop
 μ-loop image position p₀ i₀ p i = position - i
 
-first-record-requires : tie.Need-first-record-requires Inv-loop μ-loop
-first-record-requires c κs = search needs
-
 loop-holds : tie.Need-loop-holds Inv-loop μ-loop
 loop-holds c =
     let a = c .before .before .args in
     let z : a .position - 0 ≡ a .position = omega arith in
     (omega arith, ap₂ (recordPlace (a .image .now)) (c .first-record .ensures) z)
-
-record-end-requires : tie.Need-record-end-requires Inv-loop μ-loop
-record-end-requires c κs = search needs
-
-add-i : tie.Need-add-i Inv-loop μ-loop
-add-i c = search needs
-
-loop-less : tie.Need-loop-less Inv-loop μ-loop
-loop-less c = search needs
 
 loop-again : tie.Need-loop-again Inv-loop μ-loop
 loop-again c =
@@ -54,10 +42,10 @@ record-place-spec =
     (tie.spec
     Inv-loop
     μ-loop
-    first-record-requires
+    (λ c κs. search needs)
     loop-holds
-    record-end-requires
-    add-i
-    loop-less
+    (λ c κs. search needs)
+    (λ c. search needs)
+    (λ c. search needs)
     loop-again
     returns)

@@ -6,9 +6,6 @@ use borrow.Author.Needs.{needs}
 use Rattle.syntax.proofs.attribute_fits.Statement.{statement}
 use Rattle.syntax.proofs.attribute_fits.Tie as tie
 
-attribute-row-requires : tie.Need-attribute-row-requires
-attribute-row-requires c κs = search needs
-
 fit-row-requires : tie.Need-fit-row-requires
 unfolding rows
 fit-row-requires c κs = (refl, rw (c .before .attribute-row .ensures) (attribute-in (c .before .before .before .before .args .form)))
@@ -20,4 +17,4 @@ returns c =
 
 pub attribute-fits-spec : {M : Type 1} → statement M
 attribute-fits-spec =
-    tie.close (tie.spec attribute-row-requires fit-row-requires returns)
+    tie.close (tie.spec (λ c κs. search needs) fit-row-requires returns)

@@ -5,12 +5,6 @@ use borrow.Author.Needs.{needs}
 use Rattle.syntax.proofs.check_rule.Statement.{statement}
 use Rattle.syntax.proofs.check_rule.Tie as tie
 
-part-requires : tie.Need-part-requires
-part-requires c κs = search needs
-
-keeps-requires : tie.Need-keeps-requires
-keeps-requires c κs = search needs
-
 returns : tie.Need-returns
 returns c = rw (← c .before .before .part .ensures) (sym (held-fits _ (sym (c .before .keeps .ensures) ∙ c .if1 .taken)))
 
@@ -18,4 +12,4 @@ returns-2 : tie.Need-returns-2
 returns-2 c = rw (← c .before .before .part .ensures) (sym (held-breaks _ (sym (c .before .keeps .ensures) ∙ c .if1 .left)))
 
 pub check-rule-spec : {M : Type 1} → statement M
-check-rule-spec = tie.close (tie.spec part-requires keeps-requires returns returns-2)
+check-rule-spec = tie.close (tie.spec (λ c κs. search needs) (λ c κs. search needs) returns returns-2)

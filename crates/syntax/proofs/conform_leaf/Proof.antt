@@ -8,12 +8,6 @@ use Rattle.der.specs.Fit.{kept}
 use Rattle.syntax.proofs.conform_leaf.Statement.{statement}
 use Rattle.syntax.proofs.conform_leaf.Tie as tie
 
-check-element-requires : tie.Need-check-element-requires
-check-element-requires c κs = search needs
-
-is-kept-requires : tie.Need-is-kept-requires
-is-kept-requires c κs = search needs
-
 returns : tie.Need-returns
 returns c =
     let a = c .before .before .before .before .before .args in
@@ -24,9 +18,6 @@ returns c =
 
 fit-body-requires : tie.Need-fit-body-requires
 fit-body-requires c κs = c .before .before .before .before .before .pre
-
-is-kept-requires-2 : tie.Need-is-kept-requires-2
-is-kept-requires-2 c κs = search needs
 
 returns-2 : tie.Need-returns-2
 returns-2 c =
@@ -39,9 +30,9 @@ pub conform-leaf-spec : {M : Type 1} → statement M
 conform-leaf-spec =
     tie.close
     (tie.spec
-    check-element-requires
-    is-kept-requires
+    (λ c κs. search needs)
+    (λ c κs. search needs)
     returns
     fit-body-requires
-    is-kept-requires-2
+    (λ c κs. search needs)
     returns-2)

@@ -8,12 +8,6 @@ use borrow.Author.Needs.{needs}
 use Rattle.syntax.proofs.conforms.Statement.{statement}
 use Rattle.syntax.proofs.conforms.Tie as tie
 
-form-row-requires : tie.Need-form-row-requires
-form-row-requires c κs = search needs
-
-slice-aggregate-conform-row : tie.Need-slice-aggregate-conform-row
-slice-aggregate-conform-row c = search needs
-
 conform-row-requires : tie.Need-conform-row-requires
 unfolding rows
 conform-row-requires c κs = (refl, rw (c .before .before .form-row .ensures) (form-in (c .before .before .before .before .args .form)))
@@ -27,7 +21,7 @@ pub conforms-spec : {M : Type 1} → statement M
 conforms-spec =
     tie.close
     (tie.spec
-    form-row-requires
-    slice-aggregate-conform-row
+    (λ c κs. search needs)
+    (λ c. search needs)
     conform-row-requires
     returns)

@@ -29,15 +29,6 @@ mul-part-2 c = omega arith
 add-part : tie.Need-add-part Inv-loop μ-loop
 add-part c = omega arith
 
-part-requires : tie.Need-part-requires Inv-loop μ-loop
-part-requires c κs = search needs
-
-equal-requires : tie.Need-equal-requires Inv-loop μ-loop
-equal-requires c κs = search needs
-
-type-at-requires : tie.Need-type-at-requires Inv-loop μ-loop
-type-at-requires c κs = search needs
-
 returns : tie.Need-returns Inv-loop μ-loop
 returns c =
     let l = c .before .before .before .before .before .loop in
@@ -69,9 +60,9 @@ find-type-spec =
     mul-part
     mul-part-2
     add-part
-    part-requires
-    equal-requires
-    type-at-requires
+    (λ c κs. search needs)
+    (λ c κs. search needs)
+    (λ c κs. search needs)
     returns
     add-k
     loop-less

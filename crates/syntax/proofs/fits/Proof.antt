@@ -8,12 +8,6 @@ use borrow.Author.Needs.{needs}
 use Rattle.syntax.proofs.fits.Statement.{statement}
 use Rattle.syntax.proofs.fits.Tie as tie
 
-form-row-requires : tie.Need-form-row-requires
-form-row-requires c κs = search needs
-
-slice-aggregate-fit-row : tie.Need-slice-aggregate-fit-row
-slice-aggregate-fit-row c = search needs
-
 fit-row-requires : tie.Need-fit-row-requires
 unfolding rows
 fit-row-requires c κs = (refl, rw (c .before .before .form-row .ensures) (form-in (c .before .before .before .before .args .form)))
@@ -26,7 +20,7 @@ pub fits-spec : {M : Type 1} → statement M
 fits-spec =
     tie.close
     (tie.spec
-    form-row-requires
-    slice-aggregate-fit-row
+    (λ c κs. search needs)
+    (λ c. search needs)
     fit-row-requires
     returns)

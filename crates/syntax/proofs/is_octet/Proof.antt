@@ -12,14 +12,8 @@ use Rattle.syntax.proofs.is_octet.Tie as tie
 returns : tie.Need-returns
 returns c = sym (same-lengths _ (c .before .before .args .n ∷ []) (c .if1 .taken))
 
-shared-slice-read-wide : tie.Need-shared-slice-read-wide
-shared-slice-read-wide c = search needs
-
-wide-requires : tie.Need-wide-requires
-wide-requires c κs = search needs
-
 returns-2 : tie.Need-returns-2
 returns-2 c = ap (λ (x : ℕ). eqb x (c .before .before .before .before .args .n)) (c .wide .ensures) ∙ sym (same-one _ _ (c .before .before .if1 .left))
 
 pub is-octet-spec : {M : Type 1} → statement M
-is-octet-spec = tie.close (tie.spec returns shared-slice-read-wide wide-requires returns-2)
+is-octet-spec = tie.close (tie.spec returns (λ c. search needs) (λ c κs. search needs) returns-2)

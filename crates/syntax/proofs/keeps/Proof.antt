@@ -17,26 +17,14 @@ returns-2 c = sym (size-some _ _ _ _ (c .before .if1 .taken) (c .if2 .left))
 returns-3 : tie.Need-returns-3
 returns-3 c = sym (rule-empty _ _ _ _ (c .if3 .taken))
 
-is-octet-requires : tie.Need-is-octet-requires
-is-octet-requires c κs = search needs
-
 returns-4 : tie.Need-returns-4
 returns-4 c = c .is-octet .ensures ∙ sym (rule-equals _ _ _ _ (c .before .if4 .taken))
-
-equal-requires : tie.Need-equal-requires
-equal-requires c κs = search needs
 
 returns-5 : tie.Need-returns-5
 returns-5 c = c .equal .ensures ∙ sym (rule-given _ _ _ _ (c .before .if5 .taken))
 
-is-integer-requires : tie.Need-is-integer-requires
-is-integer-requires c κs = search needs
-
 returns-6 : tie.Need-returns-6
 returns-6 c = sym (integer-bad _ _ _ _ (c .before .before .if6 .taken) (sym (c .before .is-integer .ensures) ∙ not-true _ (c .if7 .taken)))
-
-is-octet-requires-2 : tie.Need-is-octet-requires-2
-is-octet-requires-2 c κs = search needs
 
 returns-7 : tie.Need-returns-7
 returns-7 c =
@@ -48,9 +36,6 @@ returns-8 c = sym (number-long _ _ _ _ (c .before .if8 .taken) (c .if9 .taken))
 
 returns-9 : tie.Need-returns-9
 returns-9 c = sym (number-none _ _ _ _ (c .before .before .if8 .taken) (c .if10 .taken))
-
-shared-slice-read-result : tie.Need-shared-slice-read-result
-shared-slice-read-result c = search needs
 
 returns-10 : tie.Need-returns-10
 returns-10 c = sym (number-short _ _ _ _ (c .before .before .before .if8 .taken) (c .before .before .if9 .left))
@@ -68,16 +53,16 @@ keeps-spec =
     returns
     returns-2
     returns-3
-    is-octet-requires
+    (λ c κs. search needs)
     returns-4
-    equal-requires
+    (λ c κs. search needs)
     returns-5
-    is-integer-requires
+    (λ c κs. search needs)
     returns-6
-    is-octet-requires-2
+    (λ c κs. search needs)
     returns-7
     returns-8
     returns-9
-    shared-slice-read-result
+    (λ c. search needs)
     returns-10
     returns-11)

@@ -5,15 +5,9 @@ use borrow.Author.Needs.{needs}
 use Rattle.syntax.proofs.recognise.Statement.{statement}
 use Rattle.syntax.proofs.recognise.Tie as tie
 
-slice-aggregate-find-type : tie.Need-slice-aggregate-find-type
-slice-aggregate-find-type c = search needs
-
 find-type-requires : tie.Need-find-type-requires
 unfolding typeTable
 find-type-requires c κs = refl
 
-returns : tie.Need-returns
-returns c = search needs
-
 pub recognise-spec : {M : Type 1} → statement M
-recognise-spec = tie.close (tie.spec slice-aggregate-find-type find-type-requires returns)
+recognise-spec = tie.close (tie.spec (λ c. search needs) find-type-requires (λ c. search needs))

@@ -21,27 +21,12 @@ after : (c : tie.After-community-update) → Scratch (c .community-update .last 
 after c = let w = numbered (c .before .before .before) in let d = c .community-update .ensures in
     record { room = omega (arith, w .room, d .room); store = _; holds = d .store (w .store) (w .holds) }
 
-slice-aggregate-renumber : tie.Need-slice-aggregate-renumber
-slice-aggregate-renumber c = search needs
-
-renumber-requires : tie.Need-renumber-requires
-renumber-requires c κs = search needs
-
-slice-aggregate-community-update : tie.Need-slice-aggregate-community-update
-slice-aggregate-community-update c = search needs
-
 community-update-requires : tie.Need-community-update-requires
 community-update-requires c κs = let p = start (c .before .before) .pre in record { asked = p .1 .asks; update = p .2; scratch = numbered (c .before .before) }
-
-msg-ref-requires : tie.Need-msg-ref-requires
-msg-ref-requires c κs = search needs
 
 confirm-size-requires : tie.Need-confirm-size-requires
 confirm-size-requires c κs = let k = c .before .before .before .before .before .before in let a = start k .args in let p = start k .pre in
     whole-fits (a .s .now) (a .q .msgref) (p .0 .message) (c .msg-ref .ensures)
-
-refusal-requires : tie.Need-refusal-requires
-refusal-requires c κs = search needs
 
 returns : tie.Need-returns
 returns c = let k = c .before .before .before .before .before .before .before .before .before in let a = start k .args in let p = start k .pre in let d = c .before .before .before .before .before .before .community-update in
@@ -69,12 +54,6 @@ slice-aggregate-finish c = sym (length-take-le _ _ (after (c .before .before .be
 finish-requires : tie.Need-finish-requires
 finish-requires c κs = omega (arith, held-short (after (c .before .before .before .before .before .before .before .before .before .before .before) .holds), start (c .before .before .before .before .before .before .before .before .before .before .before .before .before .before) .pre .0 .next)
 
-same-length : tie.Need-same-length
-same-length c = search needs
-
-same-length-2 : tie.Need-same-length-2
-same-length-2 c = search needs
-
 returns-2 : tie.Need-returns-2
 returns-2 c = let k = c .before .before .before .before .before .before .before .before .before .before .before .before .before .before .before .before .before in let a = start k .args in let p = start k .pre in let d = c .before .before .before .before .before .before .before .before .before .before .before .before .before .before .community-update in
     community-written (a .s .now) (a .q) (a .i) (a .image .now) (a .reply .now) (a .next .now) (p .2)
@@ -93,18 +72,18 @@ pub community-spec : {M : Type 1} → statement M
 community-spec =
     tie.close
     (tie.spec
-    slice-aggregate-renumber
-    renumber-requires
-    slice-aggregate-community-update
+    (λ c. search needs)
+    (λ c κs. search needs)
+    (λ c. search needs)
     community-update-requires
-    msg-ref-requires
+    (λ c κs. search needs)
     confirm-size-requires
-    refusal-requires
+    (λ c κs. search needs)
     returns
     put-community-confirm-requires
     array-share-prefix-work
     slice-aggregate-finish
     finish-requires
-    same-length
-    same-length-2
+    (λ c. search needs)
+    (λ c. search needs)
     returns-2)

@@ -14,14 +14,8 @@ use borrow.Author.Needs.{needs}
 use Rattle.tamp.proofs.confirm.Statement.{statement}
 use Rattle.tamp.proofs.confirm.Tie as tie
 
-msg-ref-requires : tie.Need-msg-ref-requires
-msg-ref-requires c κs = search needs
-
 update-size-requires : tie.Need-update-size-requires
 update-size-requires c κs = let a = c .before .before .before .before .before .before .args in let p = c .before .before .before .before .before .before .pre in (whole-fits (a .s .now) (a .q .msgref) (p .0 .message) (c .msg-ref .ensures), omega (arith, p .1))
-
-refusal-requires : tie.Need-refusal-requires
-refusal-requires c κs = search needs
 
 returns : tie.Need-returns
 returns c = let a = c .before .before .before .before .before .before .before .before .before .args in
@@ -34,15 +28,6 @@ returns c = let a = c .before .before .before .before .before .before .before .b
 put-update-confirm-requires : tie.Need-put-update-confirm-requires
 put-update-confirm-requires c κs = let a = c .before .before .before .before .before .before .before .before .before .args in
     omega (arith, c .before .before .update-size .ensures (map statusOf (a .codes .now)) (length-map (a .codes .now) statusOf), c .before .if1 .left, c .before .before .before .before .before .before .before .before .before .pre .0 .reply)
-
-finish-requires : tie.Need-finish-requires
-finish-requires c κs = search needs
-
-same-length : tie.Need-same-length
-same-length c = search needs
-
-same-length-2 : tie.Need-same-length-2
-same-length-2 c = search needs
 
 returns-2 : tie.Need-returns-2
 returns-2 c = let a = c .before .before .before .before .before .before .before .before .before .before .before .before .before .before .before .before .args in
@@ -60,12 +45,12 @@ pub confirm-spec : {M : Type 1} → statement M
 confirm-spec =
     tie.close
     (tie.spec
-    msg-ref-requires
+    (λ c κs. search needs)
     update-size-requires
-    refusal-requires
+    (λ c κs. search needs)
     returns
     put-update-confirm-requires
-    finish-requires
-    same-length
-    same-length-2
+    (λ c κs. search needs)
+    (λ c. search needs)
+    (λ c. search needs)
     returns-2)

@@ -5,38 +5,17 @@ use borrow.Author.Needs.{needs}
 use Rattle.tamp.proofs.decide.Statement.{statement}
 use Rattle.tamp.proofs.decide.Tie as tie
 
-judge-requires : tie.Need-judge-requires
-judge-requires c κs = search needs
-
-enum-known-r : tie.Need-enum-known-r
-enum-known-r c = search needs
-
 refuse-requires : tie.Need-refuse-requires
 refuse-requires c κs = let a = c .before .before .before .before .before .before .before .before .before .before .before .args in
     refusal-given (a .message .now) (a .image .now) (a .verdict .now) (λ k. omega (arith, c .before .before .before .before .before .before .before .before .before .shared-slice-known2 .given k)) (c .before .before .before .before .before .judge .ensures) (c .before .before .before .before .before .before .before .before .before .before .before .pre .0) (c .before .before .before .before .before .before .before .before .before .before .before .pre .1) (c .before .before .before .r .given .1)
-
-enum-known-q : tie.Need-enum-known-q
-enum-known-q c = search needs
 
 accepted-requires : tie.Need-accepted-requires
 accepted-requires c κs = let a = c .before .before .before .before .before .before .before .before .before .before .before .args in
     accepted-given (a .message .now) (a .image .now) (a .verdict .now) (λ k. omega (arith, c .before .before .before .before .before .before .before .before .before .shared-slice-known2 .given k)) (c .before .before .before .before .before .judge .ensures) (c .before .before .before .before .before .before .before .before .before .before .before .pre .0) (c .before .before .before .before .before .before .before .before .before .before .before .pre .1) (c .before .before .before .q .given .1)
 
-same-length : tie.Need-same-length
-same-length c = search needs
-
-same-length-2 : tie.Need-same-length-2
-same-length-2 c = search needs
-
 returns : tie.Need-returns
 returns c σ d = let a = c .before .before .before .before .before .before .before .before .before .before .before .before .before .before .before .before .args in
     refused-by (a .message .now) (a .image .now) (a .verdict .now) (λ k. omega (arith, c .before .before .before .before .before .before .before .before .before .before .before .before .before .before .shared-slice-known2 .given k)) (c .before .before .before .before .before .before .before .before .before .before .judge .ensures) (a .reply .now) (a .next .now) σ d (c .before .before .before .before .before .before .before .before .r .given .1) (c .before .before .before .before .refuse .ensures)
-
-same-length-3 : tie.Need-same-length-3
-same-length-3 c = search needs
-
-same-length-4 : tie.Need-same-length-4
-same-length-4 c = search needs
 
 returns-2 : tie.Need-returns-2
 returns-2 c σ d = let a = c .before .before .before .before .before .before .before .before .before .before .before .before .before .before .before .before .args in
@@ -46,14 +25,14 @@ pub decide-spec : {M : Type 1} → statement M
 decide-spec =
     tie.close
     (tie.spec
-    judge-requires
-    enum-known-r
+    (λ c κs. search needs)
+    (λ c. search needs)
     refuse-requires
-    enum-known-q
+    (λ c. search needs)
     accepted-requires
-    same-length
-    same-length-2
+    (λ c. search needs)
+    (λ c. search needs)
     returns
-    same-length-3
-    same-length-4
+    (λ c. search needs)
+    (λ c. search needs)
     returns-2)

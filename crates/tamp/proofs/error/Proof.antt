@@ -11,18 +11,9 @@ use borrow.Author.Needs.{needs}
 use Rattle.tamp.proofs.error.Statement.{statement}
 use Rattle.tamp.proofs.error.Tie as tie
 
-contents-requires : tie.Need-contents-requires
-contents-requires c κs = search needs
-
-whole-requires : tie.Need-whole-requires
-whole-requires c κs = search needs
-
 error-size-requires : tie.Need-error-size-requires
 error-size-requires c κs = let a = c .before .before .before .before .before .before .args in let p = c .before .before .before .before .before .before .pre in
     (contents-fits (a .s .now) (a .about) (p .0 .message) (c .before .contents .ensures), whole-fits (a .s .now) (a .msgref) (p .0 .message) (c .whole .ensures))
-
-refusal-requires : tie.Need-refusal-requires
-refusal-requires c κs = search needs
 
 returns : tie.Need-returns
 returns c = let a = c .before .before .before .before .before .before .before .before .before .args in
@@ -34,15 +25,6 @@ returns c = let a = c .before .before .before .before .before .before .before .b
 
 put-error-requires : tie.Need-put-error-requires
 put-error-requires c κs = let p = c .before .before .before .before .before .before .before .before .before .pre in (p .1, omega (arith, c .before .before .error-size .ensures (c .before .before .before .before .before .before .before .before .before .args .status), c .before .if1 .left, p .0 .reply))
-
-finish-requires : tie.Need-finish-requires
-finish-requires c κs = search needs
-
-same-length : tie.Need-same-length
-same-length c = search needs
-
-same-length-2 : tie.Need-same-length-2
-same-length-2 c = search needs
 
 returns-2 : tie.Need-returns-2
 returns-2 c = let a = c .before .before .before .before .before .before .before .before .before .before .before .before .before .before .before .before .args in
@@ -60,13 +42,13 @@ pub error-spec : {M : Type 1} → statement M
 error-spec =
     tie.close
     (tie.spec
-    contents-requires
-    whole-requires
+    (λ c κs. search needs)
+    (λ c κs. search needs)
     error-size-requires
-    refusal-requires
+    (λ c κs. search needs)
     returns
     put-error-requires
-    finish-requires
-    same-length
-    same-length-2
+    (λ c κs. search needs)
+    (λ c. search needs)
+    (λ c. search needs)
     returns-2)

@@ -39,9 +39,6 @@ terse-again : (c : tie.After-renumber)
 unfolding identifierParts communityParts
 terse-again c = again (λ k l. length (listOf 0x04 k) + length (listOf 0x06 l)) c
 
-msg-ref-requires : tie.Need-msg-ref-requires
-msg-ref-requires c κs = search needs
-
 terse-size-requires : tie.Need-terse-size-requires
 terse-size-requires c κs = let a = c .before .before .before .before .before .args in let p = c .before .before .before .before .before .pre in
     omega (arith, image-short (a .image .now) (p .1 .store) (λ k. omega (arith, c .before .before .before .shared-slice-known2 .given k)) (p .1 .decodes))
@@ -50,9 +47,6 @@ response-size-requires : tie.Need-response-size-requires
 response-size-requires c κs = let a = c .before .before .before .before .before .before .args in let p = c .before .before .before .before .before .before .pre in
     (whole-fits (a .s .now) (a .q .msgref) (p .0 .message) (c .before .msg-ref .ensures), c .terse-size .ensures .1)
 
-refusal-requires : tie.Need-refusal-requires
-refusal-requires c κs = search needs
-
 returns : tie.Need-returns
 returns c = let a = c .before .before .before .before .before .before .before .before .before .args in let p = c .before .before .before .before .before .before .before .before .before .pre in
     moved-long (a .s .now) (a .q) (a .i) (a .image .now) _ (a .reply .now) (a .next .now)
@@ -60,9 +54,6 @@ returns c = let a = c .before .before .before .before .before .before .before .b
     (c .before .before .response-size .ensures (a .image .now) (c .before .before .before .terse-size .ensures .0))
     (c .before .if1 .taken)
     (c .refusal .ensures)
-
-renumber-requires : tie.Need-renumber-requires
-renumber-requires c κs = search needs
 
 slice-reshare-prefix-put-status-response : tie.Need-slice-reshare-prefix-put-status-response
 slice-reshare-prefix-put-status-response c = numbered (c .before .before .before) .holds .inside
@@ -84,15 +75,6 @@ put-status-response-requires c κs =
       ),
     )
 
-reply-requires : tie.Need-reply-requires
-reply-requires c κs = search needs
-
-same-length : tie.Need-same-length
-same-length c = search needs
-
-same-length-2 : tie.Need-same-length-2
-same-length-2 c = search needs
-
 returns-2 : tie.Need-returns-2
 returns-2 c =
     let k = c .before .before .before .before .before .before .before .before in
@@ -111,16 +93,16 @@ pub query-spec : {M : Type 1} → statement M
 query-spec =
     tie.close
     (tie.spec
-    msg-ref-requires
+    (λ c κs. search needs)
     terse-size-requires
     response-size-requires
-    refusal-requires
+    (λ c κs. search needs)
     returns
-    renumber-requires
+    (λ c κs. search needs)
     slice-reshare-prefix-put-status-response
     slice-aggregate-put-status-response
     put-status-response-requires
-    reply-requires
-    same-length
-    same-length-2
+    (λ c κs. search needs)
+    (λ c. search needs)
+    (λ c. search needs)
     returns-2)

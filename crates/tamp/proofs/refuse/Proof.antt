@@ -8,12 +8,6 @@ use borrow.Author.Needs.{needs}
 use Rattle.tamp.proofs.refuse.Statement.{statement}
 use Rattle.tamp.proofs.refuse.Tie as tie
 
-finish-requires : tie.Need-finish-requires
-finish-requires c κs = search needs
-
-same-length : tie.Need-same-length
-same-length c = search needs
-
 returns : tie.Need-returns
 returns c = let a = c .before .before .before .before .before .before .before .before .before .before .before .before .args in
     silent (a .r .status) (refusalReply (a .s .now) (a .r)) (a .image .now) (a .reply .now) (a .next .now)
@@ -21,15 +15,6 @@ returns c = let a = c .before .before .before .before .before .before .before .b
     refl
     (c .before .before .finish .ensures .0)
     (c .before .before .finish .ensures .1)
-
-error-requires : tie.Need-error-requires
-error-requires c κs = search needs
-
-same-length-2 : tie.Need-same-length-2
-same-length-2 c = search needs
-
-same-length-3 : tie.Need-same-length-3
-same-length-3 c = search needs
 
 returns-2 : tie.Need-returns-2
 returns-2 c = let a = c .before .before .before .before .before .before .before .before .before .before .before .before .before .before .before .args in
@@ -42,10 +27,10 @@ pub refuse-spec : {M : Type 1} → statement M
 refuse-spec =
     tie.close
     (tie.spec
-    finish-requires
-    same-length
+    (λ c κs. search needs)
+    (λ c. search needs)
     returns
-    error-requires
-    same-length-2
-    same-length-3
+    (λ c κs. search needs)
+    (λ c. search needs)
+    (λ c. search needs)
     returns-2)

@@ -10,20 +10,8 @@ use Rattle.tamp.proofs.renumber.Tie as tie
 copy-to-requires : tie.Need-copy-to-requires
 copy-to-requires c κs = let a = c .before .before .before .before .args in copy-fits (a .s .now) (a .q) (a .i) (a .image .now) (a .next .now) (λ k. omega (arith, c .before .before .before .shared-slice-known .given k)) (λ k. omega (arith, c .before .before .shared-slice-known2 .given k)) (c .before .before .before .before .pre .0) (c .before .before .before .before .pre .1)
 
-field-requires : tie.Need-field-requires
-field-requires c κs = search needs
-
-number-in-requires : tie.Need-number-in-requires
-number-in-requires c κs = search needs
-
-record-place-requires : tie.Need-record-place-requires
-record-place-requires c κs = search needs
-
 set-number-requires : tie.Need-set-number-requires
 set-number-requires c κs = let a = c .before .before .before .before .before .before .before .before .before .before .before .args in number-fits (a .s .now) (a .q) (a .i) (a .image .now) (a .next .now) (λ k. omega (arith, c .before .before .before .before .before .before .before .before .before .before .shared-slice-known .given k)) (λ k. omega (arith, c .before .before .before .before .before .before .before .before .before .shared-slice-known2 .given k)) (c .before .before .before .before .before .before .before .before .before .before .before .pre .0) (c .before .before .before .before .before .before .before .before .before .before .before .pre .1) (c .before .before .before .before .before .before .copy-to .ensures) (c .record-place .ensures)
-
-same-length : tie.Need-same-length
-same-length c = search needs
 
 returns : tie.Need-returns
 returns c = let a = c .before .before .before .before .before .before .before .before .before .before .before .before .before .before .args in
@@ -35,9 +23,9 @@ renumber-spec =
     tie.close
     (tie.spec
     copy-to-requires
-    field-requires
-    number-in-requires
-    record-place-requires
+    (λ c κs. search needs)
+    (λ c κs. search needs)
+    (λ c κs. search needs)
     set-number-requires
-    same-length
+    (λ c. search needs)
     returns)

@@ -24,44 +24,11 @@ house c =
     (c .before .or-if3 .ensures)
     (c .or-if4 .ensures)
 
-is-image-requires : tie.Need-is-image-requires
-is-image-requires c κs = search needs
-
-or-if-requires : tie.Need-or-if-requires
-or-if-requires c κs = search needs
-
-is-verdict-requires : tie.Need-is-verdict-requires
-is-verdict-requires c κs = search needs
-
-or-if-requires-2 : tie.Need-or-if-requires-2
-or-if-requires-2 c κs = search needs
-
-is-small-requires : tie.Need-is-small-requires
-is-small-requires c κs = search needs
-
-or-if-requires-3 : tie.Need-or-if-requires-3
-or-if-requires-3 c κs = search needs
-
-or-if-requires-4 : tie.Need-or-if-requires-4
-or-if-requires-4 c κs = search needs
-
-refuses-requires : tie.Need-refuses-requires
-refuses-requires c κs = search needs
-
-refusal-requires : tie.Need-refusal-requires
-refusal-requires c κs = search needs
-
 returns : tie.Need-returns
 returns c = call-refused _ _ _ _ _ (house (c .before .before .before)) (sym (c .before .before .refuses .ensures) ∙ c .before .if1 .taken) (c .refusal .ensures)
 
 decide-requires : tie.Need-decide-requires
 decide-requires c κs = house (c .before .before .before .before) .passes (sym (c .before .before .before .refuses .ensures) ∙ c .before .before .if1 .left)
-
-same-length : tie.Need-same-length
-same-length c = search needs
-
-same-length-2 : tie.Need-same-length-2
-same-length-2 c = search needs
 
 returns-2 : tie.Need-returns-2
 returns-2 c =
@@ -71,17 +38,17 @@ pub tamp-call-spec : {M : Type 1} → statement M
 tamp-call-spec =
     tie.close
     (tie.spec
-    is-image-requires
-    or-if-requires
-    is-verdict-requires
-    or-if-requires-2
-    is-small-requires
-    or-if-requires-3
-    or-if-requires-4
-    refuses-requires
-    refusal-requires
+    (λ c κs. search needs)
+    (λ c κs. search needs)
+    (λ c κs. search needs)
+    (λ c κs. search needs)
+    (λ c κs. search needs)
+    (λ c κs. search needs)
+    (λ c κs. search needs)
+    (λ c κs. search needs)
+    (λ c κs. search needs)
     returns
     decide-requires
-    same-length
-    same-length-2
+    (λ c. search needs)
+    (λ c. search needs)
     returns-2)

@@ -24,18 +24,6 @@ after : (c : tie.After-update) → Scratch (c .update .last .1 .1 .1 .1 .0) (c .
 after c = let w = numbered (c .before .before .before .before .before .before .before) in let d = c .update .ensures in
     record { room = omega (arith, w .room, d .room); store = _; holds = d .store (w .store) (w .holds) }
 
-slice-aggregate-renumber : tie.Need-slice-aggregate-renumber
-slice-aggregate-renumber c = search needs
-
-renumber-requires : tie.Need-renumber-requires
-renumber-requires c κs = search needs
-
-updates-in-requires : tie.Need-updates-in-requires
-updates-in-requires c κs = search needs
-
-count-requires : tie.Need-count-requires
-count-requires c κs = search needs
-
 array-share-prefix-work : tie.Need-array-share-prefix-work
 array-share-prefix-work c = numbered (c .before .before .before .before) .holds .inside
 
@@ -45,12 +33,6 @@ slice-aggregate-error c = sym (length-take-le _ _ (numbered (c .before .before .
 error-requires : tie.Need-error-requires
 error-requires c κs = (start (c .before .before .before .before .before .before .before) .pre .0, omega arith, held-short (numbered (c .before .before .before .before .before .before .before) .holds))
 
-same-length : tie.Need-same-length
-same-length c = search needs
-
-same-length-2 : tie.Need-same-length-2
-same-length-2 c = search needs
-
 returns : tie.Need-returns
 returns c σ d = let k = c .before .before .before .before .before .before .before .before .before .before .before .before in let a = start k .args in let p = start k .pre in let h = written-holds (k .renumber .ensures σ d) (omega arith) in
     by-update (a .s .now) (a .q) (a .i) σ (a .reply .now) (a .next .now) (a .image .now) (octets k) (p .1) d (p .2)
@@ -58,12 +40,6 @@ returns c σ d = let k = c .before .before .before .before .before .before .befo
     (c .before .before .before .before .before .before .before .before .if1 .taken)
     h
     (c .before .before .before .before .error .ensures))
-
-slice-aggregate-update : tie.Need-slice-aggregate-update
-slice-aggregate-update c = search needs
-
-slice-aggregate-update-2 : tie.Need-slice-aggregate-update-2
-slice-aggregate-update-2 c = search needs
 
 update-requires : tie.Need-update-requires
 update-requires c κs = let k = c .before .before .before .before .before .before in let a = start k .args in let p = start k .pre in
@@ -74,9 +50,6 @@ update-requires c κs = let k = c .before .before .before .before .before .befor
       few = omega (arith, counted (a .s .now) (a .q) (c .before .before .before .before .updates-in .ensures) (c .before .before .before .count .ensures), c .before .before .if1 .left);
       space = omega arith;
     }
-
-array-share-prefix-codes : tie.Need-array-share-prefix-codes
-array-share-prefix-codes c = search needs
 
 slice-aggregate-confirm : tie.Need-slice-aggregate-confirm
 slice-aggregate-confirm c = sym (length-take-le _ _ (omega (arith, c .before .before .before .before .before .before .if1 .left)))
@@ -90,12 +63,6 @@ slice-aggregate-confirm-2 c = sym (length-take-le _ _ (after (c .before .before 
 confirm-requires : tie.Need-confirm-requires
 confirm-requires c κs = let k = c .before .before .before .before .before .before .before .before .before .before .before .before .before in let w = numbered k in let d = c .before .before .before .before .before .before in
     (start k .pre .0, codes-few (d .update .ensures .statuses (w .store) (w .holds)) (c .before .before .before .before .before .before .before .before .before .if1 .left), held-short (after d .holds))
-
-same-length-3 : tie.Need-same-length-3
-same-length-3 c = search needs
-
-same-length-4 : tie.Need-same-length-4
-same-length-4 c = search needs
 
 returns-2 : tie.Need-returns-2
 returns-2 c σ d = let k = c .before .before .before .before .before .before .before .before .before .before .before .before .before .before .before .before .before .before in let a = start k .args in let p = start k .pre in let h = written-holds (k .renumber .ensures σ d) (omega arith) in
@@ -111,24 +78,24 @@ pub update-spec : {M : Type 1} → statement M
 update-spec =
     tie.close
     (tie.spec
-    slice-aggregate-renumber
-    renumber-requires
-    updates-in-requires
-    count-requires
+    (λ c. search needs)
+    (λ c κs. search needs)
+    (λ c κs. search needs)
+    (λ c κs. search needs)
     array-share-prefix-work
     slice-aggregate-error
     error-requires
-    same-length
-    same-length-2
+    (λ c. search needs)
+    (λ c. search needs)
     returns
-    slice-aggregate-update
-    slice-aggregate-update-2
+    (λ c. search needs)
+    (λ c. search needs)
     update-requires
-    array-share-prefix-codes
+    (λ c. search needs)
     slice-aggregate-confirm
     array-share-prefix-work-2
     slice-aggregate-confirm-2
     confirm-requires
-    same-length-3
-    same-length-4
+    (λ c. search needs)
+    (λ c. search needs)
     returns-2)

@@ -19,15 +19,6 @@ abbrev μ-loop : tie.MeasureT-loop
 loop-holds : tie.Need-loop-holds Inv-loop μ-loop
 loop-holds c = length-replicate {A = ℕ} 4096 0
 
-slice-aggregate-put-hex : tie.Need-slice-aggregate-put-hex Inv-loop μ-loop
-slice-aggregate-put-hex c = search needs
-
-add-part : tie.Need-add-part Inv-loop μ-loop
-add-part c = search needs
-
-part-requires : tie.Need-part-requires Inv-loop μ-loop
-part-requires c κs = search needs
-
 -- a chunk that has been taken
 module _ (k : tie.After-part Inv-loop μ-loop) where
   abbrev loop : tie.At-loop Inv-loop μ-loop
@@ -56,20 +47,8 @@ array-share-prefix-text c = put (c .before)
 slice-aggregate-write-all : tie.Need-slice-aggregate-write-all Inv-loop μ-loop
 slice-aggregate-write-all c = sym (length-take-le _ _ (put (c .before .before)))
 
-write-all-requires : tie.Need-write-all-requires Inv-loop μ-loop
-write-all-requires c κs = search needs
-
-add-i : tie.Need-add-i Inv-loop μ-loop
-add-i c = search needs
-
-loop-less : tie.Need-loop-less Inv-loop μ-loop
-loop-less c = search needs
-
 loop-again : tie.Need-loop-again Inv-loop μ-loop
 loop-again c = room (c .before .before .before)
-
-returns : tie.Need-returns Inv-loop μ-loop
-returns c = search needs
 
 pub print-octets-spec : {M : Type 1} → statement M
 print-octets-spec =
@@ -78,14 +57,14 @@ print-octets-spec =
     Inv-loop
     μ-loop
     loop-holds
-    slice-aggregate-put-hex
-    add-part
-    part-requires
+    (λ c. search needs)
+    (λ c. search needs)
+    (λ c κs. search needs)
     put-hex-requires
     array-share-prefix-text
     slice-aggregate-write-all
-    write-all-requires
-    add-i
-    loop-less
+    (λ c κs. search needs)
+    (λ c. search needs)
+    (λ c. search needs)
     loop-again
-    returns)
+    (λ c. search needs))

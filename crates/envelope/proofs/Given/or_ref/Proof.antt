@@ -6,12 +6,6 @@ use Rattle.envelope.specs.Given.{givenFirst, orRef}
 use Rattle.envelope.proofs.Given.or_ref.Statement.{statement}
 use Rattle.envelope.proofs.Given.or_ref.Tie as tie
 
-enum-told : tie.Need-enum-told
-enum-told c = search needs
-
-enum-told-2 : tie.Need-enum-told-2
-enum-told-2 c = search needs
-
 returns : tie.Need-returns
 unfolding orRef givenFirst
 returns c = rw (c .enum-told2 .given .1)
@@ -25,4 +19,4 @@ unfolding orRef givenFirst givenIf
 returns-3 c = rw (c .before .enum-told .given .1, not-false (c .before .before .before .args .applies) (c .if1 .left))
 
 pub or-ref-spec : {M : Type 1} → statement M
-or-ref-spec = tie.close (tie.spec enum-told enum-told-2 returns returns-2 returns-3)
+or-ref-spec = tie.close (tie.spec (λ c. search needs) (λ c. search needs) returns returns-2 returns-3)

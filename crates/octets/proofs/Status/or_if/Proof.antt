@@ -5,9 +5,6 @@ use Rattle.octets.specs.First.{givenIf, orIf}
 use Rattle.octets.proofs.Status.or_if.Statement.{statement}
 use Rattle.octets.proofs.Status.or_if.Tie as tie
 
-refuses-requires : tie.Need-refuses-requires
-refuses-requires c κs = search needs
-
 returns : tie.Need-returns
 unfolding orIf givenIf
 returns c = rw (sym (c .before .refuses .ensures) ∙ c .if1 .taken)
@@ -21,4 +18,4 @@ unfolding orIf givenIf
 returns-3 c = rw (sym (c .before .before .refuses .ensures) ∙ c .before .if1 .left, c .if2 .left)
 
 pub or-if-spec : {M : Type 1} → statement M
-or-if-spec = tie.close (tie.spec refuses-requires returns returns-2 returns-3)
+or-if-spec = tie.close (tie.spec (λ c κs. search needs) returns returns-2 returns-3)
