@@ -1,6 +1,10 @@
 #!/usr/bin/env python3
-"""Writes the benchmark's cases below a folder, messages signed by OpenSSL: a Query, an Update with one and with sixteen adds, on stores of 3 and of 32 anchors and of 32 anchors of about 1,000 octets;
-and the messages that cost the most, of nearly 8,192 octets and of half as many: one add with as many content types as fit in (over the limit: 17), a Community Update of as many communities (17)."""
+"""cases.py FOLDER: writes the benchmark's cases below a folder, messages signed by OpenSSL.
+
+A Query, an Update with one and with sixteen adds, on stores of 3 and of 32 anchors; a Query on 32 anchors of about 1,000 octets; and the
+messages that cost the most, of nearly 8,192 octets and of half as many: one add with as many content types as fit in (over the limit: 17),
+a Community Update of as many communities (17). A case is a folder with the files message, image and verdict.
+"""
 import os
 import subprocess
 import sys
@@ -46,7 +50,10 @@ def image(count, rights=TYPES, key_octets=64):
 
 def sign(number, content):
     run = [os.path.join(TOP, 'tools', 'sign.sh'), '01' * 20, '2.16.840.1.101.2.1.2.77.%d' % number, content.hex()]
-    return bytes.fromhex(subprocess.run(run, stdout=subprocess.PIPE, check=True).stdout.decode())
+    done = subprocess.run(run, stdout=subprocess.PIPE)
+    if done.returncode:
+        sys.exit('cases.py: tools/sign.sh failed')
+    return bytes.fromhex(done.stdout.decode())
 
 
 HEAD = bytes.fromhex('810101') + bytes.fromhex('30058300020106')  # terse, and msgRef
@@ -68,8 +75,12 @@ def write(folder, name, message, store):
 
 
 def main():
+    if len(sys.argv) != 2:
+        print('usage: bench/cases.py FOLDER', file=sys.stderr)
+        sys.exit(2)
     folder = sys.argv[1]
-    messages = {'query': sign(1, element(0x30, HEAD)), 'update-1': update([anchor(100, TYPES)]), 'update-16': update([anchor(100 + k, TYPES) for k in range(16)])}
+    messages = {'query': sign(1, element(0x30, HEAD)), 'update-1': update([anchor(100, TYPES)]),
+                'update-16': update([anchor(100 + k, TYPES) for k in range(16)])}
     for count in (3, 32):
         for name, message in messages.items():
             write(folder, '%s-%d-anchors' % (name, count), message, image(count))
@@ -78,6 +89,7 @@ def main():
         write(folder, 'add-%d-types-3-anchors' % count, update([anchor(100, [oid(n) for n in range(count)])]), image(3))
     for count in (775, 1550):
         write(folder, '%d-communities-3-anchors' % count, communities(count), image(3))
+    print('cases.py:', len(os.listdir(folder)), 'cases', file=sys.stderr)
 
 
 main()

@@ -1,13 +1,20 @@
 #!/bin/sh
-# Builds the static library and the benchmark for release, makes the cases, and prints a line for each. Needs gcc, OpenSSL and its headers, python3, xxd.
+# Builds the static library and the benchmark for release, makes the cases and prints a line for each: time against OpenSSL's reading of the
+# same message, and stack. Then the most stack that a call of the gate takes. Two minutes, where the library is proved.
 set -eu
+. "$(dirname "$0")/../tools/common.sh"
+. "$(dirname "$0")/common.sh"
+[ $# -eq 0 ] || die 'usage: bench/run.sh'
+need_bench
+need_kit
 cd "$(dirname "$0")/.."
-rt staticlib tamp
 dir=$(mktemp -d)
 trap 'rm -rf "$dir"' EXIT
-gcc -O2 bench/bench.c target/staticlib/libtamp.a -lcrypto -lpthread -o "$dir/bench"
 python3 bench/cases.py "$dir/cases"
+proved "$dir/log" staticlib tamp
+built target/staticlib/libtamp.a "$dir/bench"
 echo "lent buffers cleared once, before the runs"
 for case in "$dir"/cases/*; do
-    "$dir/bench" "$(basename "$case")" "$case"
+    "$dir/bench" time "$(basename "$case")" "$case"
 done
+"$dir/bench" stack < crates/tamp_call/stdin

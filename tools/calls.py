@@ -1,17 +1,22 @@
 #!/usr/bin/env python3
 """Calls for the program tamp_call.
 
-    tools/calls.py CALLS.. [--program PROGRAM]    runs the calls of the files (one JSON object a line: message, image and verdict in hex, the two rooms; status, reply and
-                                                  next store, or same_next) through PROGRAM and compares number, reply and store
-    tools/calls.py CALLS OUTSIDE.. --gate         writes crates/tamp_call/stdin and stdout: of CALLS those of the paper and one for each status and house refusal, then all
-                                                  of OUTSIDE (tools/outside_calls.py makes them)
+    tools/calls.py CALLS.. [--program PROGRAM]    runs the calls of the files through PROGRAM and compares number, reply and store
+    tools/calls.py CALLS OUTSIDE.. --gate         writes crates/tamp_call/stdin and stdout: of CALLS those of the paper and one for each
+                                                  status and house refusal, then all of OUTSIDE (tools/outside_calls.py makes them)
 
-PROGRAM is target/bin/tamp_call, as `rt check tamp_call` leaves it. A call that the program does not take (over its limits) is left out.
+A file has one JSON object a line: name; message, image and verdict in hex; reply_room and next_room; status, reply in hex, and next in hex
+or same_next. PROGRAM is target/bin/tamp_call, as `rt check tamp_call` leaves it. A call that the program does not take (over its limits)
+is left out. Exit status 1 where a call differs, 2 for a bad file.
 """
-import argparse, json, subprocess, sys
+import argparse, sys
+import common
+
+FIELDS = 'name message image verdict reply_room next_room status reply '
 
 
 def frame(c):
+    """the input of tamp_call (docs/PROGRAMS.md)"""
     parts = [bytes.fromhex(c[k]) for k in ('message', 'image', 'verdict')]
     numbers = [len(p) for p in parts] + [c['reply_room'], c['next_room']]
     return b''.join(n.to_bytes(4, 'big') for n in numbers) + b''.join(parts)
@@ -24,11 +29,12 @@ def expected(c):
 
 
 def taken(c):
-    return len(c['message']) <= 2 * 16384 and len(c['image']) <= 2 * 131072 and len(c['verdict']) <= 2 * 255 and max(c['reply_room'], c['next_room']) <= 131072
+    return (len(c['message']) <= 2 * 16384 and len(c['image']) <= 2 * 131072 and len(c['verdict']) <= 2 * 255
+            and max(c['reply_room'], c['next_room']) <= 131072)
 
 
-def read(path):
-    return [c for c in map(json.loads, open(path)) if taken(c)]
+def read(file):
+    return [c for c in common.json_lines(file, FIELDS + 'next', FIELDS + 'same_next') if taken(c)]
 
 
 def gate(calls, outside):
@@ -42,12 +48,12 @@ def gate(calls, outside):
     chosen.append({**c, 'verdict': c['verdict'][2:], 'status': 202, 'reply': ''})
     print(len(chosen), 'calls, statuses', sorted(seen | {202}), 'and', len(outside), 'from outside, statuses', sorted({c['status'] for c in outside}))
     chosen += outside
-    open('crates/tamp_call/stdin', 'wb').write(b''.join(frame(c) for c in chosen))
-    open('crates/tamp_call/stdout', 'w').write(''.join(line + '\n' for c in chosen for line in expected(c)))
+    open(common.path('crates/tamp_call/stdin'), 'wb').write(b''.join(frame(c) for c in chosen))
+    open(common.path('crates/tamp_call/stdout'), 'w').write(''.join(line + '\n' for c in chosen for line in expected(c)))
 
 
 def compare(calls, program):
-    written = subprocess.run([program], input=b''.join(frame(c) for c in calls), capture_output=True, check=True).stdout.decode().splitlines()
+    written = common.run(program, b''.join(frame(c) for c in calls)).splitlines()
     wrong = abs(len(written) - 3 * len(calls))
     for i, c in enumerate(calls):
         found = written[3 * i:3 * i + 3]
@@ -58,13 +64,15 @@ def compare(calls, program):
     sys.exit(1 if wrong else 0)
 
 
-parser = argparse.ArgumentParser()
+parser = argparse.ArgumentParser(description=__doc__, formatter_class=argparse.RawDescriptionHelpFormatter)
 parser.add_argument('files', nargs='+')
-parser.add_argument('--program', default='target/bin/tamp_call')
+parser.add_argument('--program')
 parser.add_argument('--gate', action='store_true')
 given = parser.parse_args()
-calls = [read(path) for path in given.files]
+if not given.gate:
+    program = common.program('tamp_call', given.program)
+calls = [read(file) for file in given.files]
 if given.gate:
     gate(calls[0], sum(calls[1:], []))
 else:
-    compare(sum(calls, []), given.program)
+    compare(sum(calls, []), program)

@@ -1,14 +1,15 @@
 #!/usr/bin/python3 -B
-"""outside.py: makes crates/tamp_read/stdin and stdout from messages of two outside tools: `openssl cms -sign` with fresh keys (tools/sign.sh) and Debian's python3-pyasn1-modules.
+"""outside.py: makes crates/tamp_read/stdin and stdout from messages of two outside tools: `openssl cms -sign` with fresh keys (tools/sign.sh)
+and Debian's python3-pyasn1-modules.
 
-Run it at the top of the repository. What the program must write is said here from what was put in: the type, the signer's key identifier, the number and the count of entries, or the status
-and the offset of the element that breaks the rule (found with `openssl asn1parse`, or as the place of the octets that were put in). Keys and times differ at each run.
+What the program must write is said here from what was put in: the type, the signer's key identifier, the number and the count of entries, or
+the status and the offset of the element that breaks the rule (found with `openssl asn1parse`, or as the place of the octets that were put in).
+Keys and times differ at each run.
 """
-import hashlib, re, subprocess
-from pyasn1.codec.der.encoder import encode
-from pyasn1.type import univ
-from pyasn1_modules import rfc5652
-from outside_tools import KINDS, Anchor, adjust, attribute, communities, content_info, ed25519, query, right, signed, update
+import hashlib, re
+import common
+from outside_tools import (KINDS, Anchor, adjust, attribute, communities, content_info, ed25519, encode, openssl, query, right, signed,
+                           signed_data as wrapped, univ, update)
 
 CASES = []
 
@@ -40,20 +41,23 @@ def refused(status, offset=0):
 
 def places(message, depth):
     """the offsets of the elements at a depth, behind the last element one level above it"""
-    run = subprocess.run(['openssl', 'asn1parse', '-inform', 'DER'], input=message, capture_output=True, check=True)
-    found = [(int(o), int(d)) for o, d in re.findall(r'^ *(\d+):d=(\d+)', run.stdout.decode(), re.M)]
+    printed = openssl('asn1parse', '-inform', 'DER', given=message).decode()
+    found = [(int(o), int(d)) for o, d in re.findall(r'^ *(\d+):d=(\d+)', printed, re.M)]
     last = max(i for i, (o, d) in enumerate(found) if d == depth - 1)
     return [o for o, d in found[last:] if d == depth]
 
 
-def openssl():
+def by_openssl():
     everywhere = {'allModules': ''}
     device = {'hwModules': [('1.2.3', [b'\x07', (b'\x10', b'\x1F')]), ('1.2.4', [None])]}
     case(signed('statusQuery', '01', query(6, **everywhere)), asks('statusQuery', '01', 6))
     case(signed('statusQuery', 'A1B2C3D4', query(2 ** 63 - 1, **device), KEY='-algorithm RSA'), asks('statusQuery', 'A1B2C3D4', 2 ** 63 - 1))
-    case(signed('update', '01', update(7, [('add', anchor(3)), ('add', anchor(4, RIGHTS)), ('remove', key(5)), ('change', key(6))], [(b'\x03', 9)], **everywhere)), asks('update', '01', 7, 4))
+    entries = [('add', anchor(3)), ('add', anchor(4, RIGHTS)), ('remove', key(5)), ('change', key(6))]
+    case(signed('update', '01', update(7, entries, [(b'\x03', 9)], **everywhere)), asks('update', '01', 7, 4))
     case(signed('update', '02', update(8, [('remove', key(n)) for n in range(17)], **device)), asks('update', '02', 8, 17))
-    case(signed('communityUpdate', '0102030405060708', communities(300, ['1.2.5'], ['1.2.6', '1.2.7'], communities=['1.2.5'])), asks('communityUpdate', '0102030405060708', 300))
+    identifier = '0102030405060708'
+    lists = communities(300, ['1.2.5'], ['1.2.6', '1.2.7'], communities=['1.2.5'])
+    case(signed('communityUpdate', identifier, lists), asks('communityUpdate', identifier, 300))
     case(signed('seqNumAdjust', '02', adjust(70000, **everywhere)), asks('seqNumAdjust', '02', 70000))
     # certificates sent; a second signer; no signed attributes; no subjectKeyIdentifier; content not sent; another content type
     case(signed('statusQuery', '01', query(6, **everywhere), WITHOUT='-nocerts'), refused(5))
@@ -69,35 +73,15 @@ def openssl():
 
 # -- pyasn1
 
-def wrapped(kind, identifier, content, more=(), unsigned=(), digest=True):
-    s = rfc5652.SignedData()
-    s['version'] = 3
-    s['digestAlgorithms'][0]['algorithm'] = univ.ObjectIdentifier('2.16.840.1.101.3.4.2.1')
-    s['encapContentInfo']['eContentType'] = KINDS[kind]
-    s['encapContentInfo']['eContent'] = content
-    i = s['signerInfos'][0]
-    i['version'] = 3
-    i['sid']['subjectKeyIdentifier'] = identifier
-    i['digestAlgorithm']['algorithm'] = univ.ObjectIdentifier('2.16.840.1.101.3.4.2.1')
-    attributes = [attribute('1.2.840.113549.1.9.3', KINDS[kind])] + list(more)
-    if digest:
-        attributes.append(attribute('1.2.840.113549.1.9.4', univ.OctetString(hashlib.sha256(content).digest())))
-    i['signedAttrs'].extend(attributes)
-    i['signatureAlgorithm']['algorithm'] = univ.ObjectIdentifier('1.3.101.112')
-    i['signature'] = hashlib.sha512(content).digest()
-    if unsigned:
-        i['unsignedAttrs'].extend(unsigned)
-    return content_info(rfc5652.id_signedData, s)
-
-
-def pyasn1():
+def by_pyasn1():
     everywhere = {'allModules': ''}
     case(wrapped('statusQuery', b'\x01', query(0, **everywhere)), asks('statusQuery', '01', 0))
-    case(wrapped('statusQuery', b'\x01\x02', query(128, hwModules=[('2.999.3', [None, b'\x01\x02', (b'\x00\x00', b'\xFF\xFF')])]), [attribute('1.2.3.4', univ.Integer(5))]),
-         asks('statusQuery', '0102', 128))
+    modules = [('2.999.3', [None, b'\x01\x02', (b'\x00\x00', b'\xFF\xFF')])]
+    case(wrapped('statusQuery', b'\x01\x02', query(128, hwModules=modules), [attribute('1.2.3.4', univ.Integer(5))]), asks('statusQuery', '0102', 128))
     case(wrapped('statusQuery', b'', query(65536, uri='http://box')), asks('statusQuery', '', 65536))
     case(wrapped('update', b'\x09', update(5, [('add', anchor(1, RIGHTS))], communities=['1.2.5', '1.2.6'])), asks('update', '09', 5, 1))
-    case(wrapped('update', b'\x09', update(6, [('change', key(1)), ('remove', key(2)), ('add', anchor(3))], [(b'\x01', 2), (b'\x02', 3)], **everywhere)), asks('update', '09', 6, 3))
+    entries = [('change', key(1)), ('remove', key(2)), ('add', anchor(3))]
+    case(wrapped('update', b'\x09', update(6, entries, [(b'\x01', 2), (b'\x02', 3)], **everywhere)), asks('update', '09', 6, 3))
     case(wrapped('communityUpdate', b'\x09', communities(7, add=['1.2.5'], **everywhere)), asks('communityUpdate', '09', 7))
     case(wrapped('communityUpdate', b'\x09', communities(8, remove=['1.2.5', '1.2.6'], **everywhere)), asks('communityUpdate', '09', 8))
     case(wrapped('seqNumAdjust', b'\x09', adjust(9, **everywhere)), asks('seqNumAdjust', '09', 9))
@@ -120,11 +104,12 @@ def pyasn1():
     case(message, refused(36, message.index(wrong)))
 
 
-openssl()
-pyasn1()
-with open('crates/tamp_read/stdin', 'wb') as f:
+by_openssl()
+common.say(len(CASES), 'messages by OpenSSL')
+by_pyasn1()
+with open(common.path('crates/tamp_read/stdin'), 'wb') as f:
     for message, _ in CASES:
         f.write(len(message).to_bytes(4, 'big') + message)
-with open('crates/tamp_read/stdout', 'w') as f:
+with open(common.path('crates/tamp_read/stdout'), 'w') as f:
     f.writelines(line + '\n' for _, line in CASES)
 print(len(CASES), 'messages')

@@ -1,22 +1,23 @@
 #!/usr/bin/python3 -B
-"""outside_calls.py: prints calls with real keys and signatures for tools/calls.py, one JSON object a line. Run it at the top of the repository.
+"""outside_calls.py: prints calls with real keys and signatures for tools/calls.py, one JSON object a line.
 
     tools/outside_calls.py | tools/calls.py /dev/stdin                   runs them through tamp_call and compares
     tools/outside_calls.py | tools/calls.py CALLS /dev/stdin --gate      puts them into the gate, behind those chosen from CALLS
 
-Each actor has a key pair of OpenSSL. python3-pyasn1-modules encodes the anchors, the messages' contents and the replies expected; OpenSSL signs, and gives the verdict: `openssl cms -verify` with
-each anchor's key. The store expected is written down for each call. Keys, times and signatures differ at each run.
+Each actor has a key pair of OpenSSL. python3-pyasn1-modules encodes the anchors, the messages' contents and the replies expected; OpenSSL
+signs, and gives the verdict with each anchor's key (`openssl cms`, and `openssl pkeyutl` for Ed25519, which `cms` of OpenSSL 3.0 lacks).
+The store expected is written down for each call. Keys, times and signatures differ at each run. Nothing is printed before all are made.
 """
 import base64, functools, hashlib, json, os, tempfile
 from typing import NamedTuple
-from pyasn1.codec.der.decoder import decode
-from pyasn1.codec.der.encoder import encode
-from pyasn1.type import char, univ
-from pyasn1_modules import rfc5280, rfc5652, rfc6010
-from outside_tools import (KINDS, Anchor, adjust, adjust_confirm, anchor_info, attribute, certificate, communities, community_confirm, content_info, error, public_key, query, right, signed,
-                           status_response, update, update_confirm, verifies)
+import common
+from outside_tools import (KINDS, Anchor, adjust, adjust_confirm, anchor_info, attribute, certificate, communities, community_confirm,
+                           content_info, decode, encode, error, is_ed25519, public_key, query, rfc5280, rfc5652, rfc6010, right, signed,
+                           signed_ed25519, status_response, univ, update, update_confirm, verifies)
+from pyasn1.type import char
 
 FOLDER = tempfile.TemporaryDirectory()
+CALLS = []
 KEY_FILES = {}  # of the octets of a public key
 
 
@@ -63,8 +64,10 @@ class Message(NamedTuple):
 
 
 def sign(signer, kind, content, identifier=None, **environment):
-    identifier = (identifier or signer.identifier).hex()
-    return Message(signed(kind, identifier, content, SIGNER=key_file(signer), **environment), identifier)
+    identifier = identifier or signer.identifier
+    if is_ed25519(key_file(signer)):
+        return Message(signed_ed25519(kind, identifier, content, key_file(signer)), identifier.hex())
+    return Message(signed(kind, identifier.hex(), content, SIGNER=key_file(signer), **environment), identifier.hex())
 
 
 @functools.lru_cache(None)
@@ -75,14 +78,15 @@ def certificate_file(key, identifier):
 
 
 def verdict(message, store):
-    return bytes(verifies(message.octets, certificate_file(key_file(anchor), message.identifier)) for anchor, _ in store.anchors)
+    keys = [key_file(anchor) for anchor, _ in store.anchors]
+    return bytes(verifies(message.octets, key, certificate_file(key, message.identifier)) for key in keys)
 
 
 def call(name, message, before, status, reply=b'', after=None):
     """a call and its answer; without `after` the store stays"""
     left = {'next': image(after).hex()} if after else {'same_next': True}
-    print(json.dumps({'name': 'outside.' + name, 'message': message.octets.hex(), 'image': image(before).hex(), 'verdict': verdict(message, before).hex(), 'reply_room': 10240,
-                      'next_room': 33717, 'status': status, 'reply': reply.hex(), **left}))
+    given = {'message': message.octets.hex(), 'image': image(before).hex(), 'verdict': verdict(message, before).hex()}
+    CALLS.append({'name': 'outside.' + name, **given, 'reply_room': 10240, 'next_room': 33717, 'status': status, 'reply': reply.hex(), **left})
 
 
 # -- the house: content types, an attribute, communities, rights, actors
@@ -96,7 +100,8 @@ ALL = {'allModules': ''}
 
 apex = actor('consultancy', key='-algorithm EC -pkeyopt ec_paramgen_curve:P-384')
 desk = actor('approval desk', [right('statusQuery'), right(TEST)], '-algorithm ED25519')
-manager = actor('manager', [right('statusQuery'), right('update'), right('communityUpdate'), right(TRAINING, limits=[(SITE, [UPPER, LOWER])]), right(MODEL, source=False)])
+manager = actor('manager', [right('statusQuery'), right('update'), right('communityUpdate'), right(TRAINING, limits=[(SITE, [UPPER, LOWER])]),
+                            right(MODEL, source=False)])
 lab = actor('lab', [right('statusQuery'), right(TRAINING, limits=[(SITE, [UPPER])])])
 sampler = actor('sampler', [right(TRAINING, limits=[(SITE, [LOWER])])])
 auditor = actor('auditor', [right('statusQuery')], '-algorithm RSA')
@@ -134,8 +139,8 @@ def run():
     call('run-1 the apex enrols the manager', enrolment, stores[0], 0, update_confirm([0], **ref), stores[1])
 
     ref = {'number': 1, 'hwModules': [(hardware, [serial])]}
-    call('run-2 the manager enrols a lab and gives it a number', sign(manager, 'update', update(entries=[('add', lab)], numbers=[(lab.identifier, 100)], **ref)),
-         stores[1], 0, update_confirm([0], **ref), stores[2])
+    numbered = update(entries=[('add', lab)], numbers=[(lab.identifier, 100)], **ref)
+    call('run-2 the manager enrols a lab and gives it a number', sign(manager, 'update', numbered), stores[1], 0, update_confirm([0], **ref), stores[2])
 
     ref = {'number': 2, 'hwModules': [(HOUSE + '9', [None]), (hardware, [b'\x01', (bytes.fromhex('20260000'), serial)])]}
     asks_too_much = sampler._replace(rights=sampler.rights + [right(TEST)])
@@ -217,7 +222,15 @@ def acceptance():
     shared = [apex.identifier, manager.identifier, manager.identifier]
     call('one identifier, the second verifies', good, Store([(apex, 9), (namesake, 8), (manager, 3)]), 0, status_response(shared, [], **ref),
          Store([(apex, 9), (namesake, 8), (manager, 4)]))
-    refuse('one identifier, none verifies', sign(stranger, kind, content, manager.identifier), kind, 16, Store([(apex, 9), (namesake, 8), (manager, 3)]), **ref)
+    store = Store([(apex, 9), (namesake, 8), (manager, 3)])
+    refuse('one identifier, none verifies', sign(stranger, kind, content, manager.identifier), kind, 16, store, **ref)
+
+    # signatures of Ed25519
+    good_desk = sign(desk, kind, content)
+    call('Ed25519', good_desk, BASE, 0, answer, BASE._replace(anchors=[(apex, 9), (desk, 4), (manager, 3), (lab, None)]))
+    refuse('Ed25519, content altered after signing', good_desk._replace(octets=good_desk.octets.replace(content, query(**altered))), kind, 16, **altered)
+    refuse("Ed25519 under the manager's identifier", sign(desk, kind, content, manager.identifier), kind, 16, **ref)
+    refuse('Ed25519, the desk may not enrol', sign(desk, 'update', update(entries=[('add', sampler)], **ref)), 'update', 11, **ref)
 
     # signatures of RSA
     store = Store([(apex, 9), (auditor, None)])
@@ -247,7 +260,8 @@ def acceptance():
     times = [a['attrValues'][0] for a in signed_data_of(good)['signerInfos'][0]['signedAttrs'] if str(a['attrType']) == SIGNING_TIME]
     other = encode(univ.Integer(0))
     timed = manager._replace(rights=[right(kind, limits=[(SIGNING_TIME, [bytes(times[0]), other])])])
-    call('the signing time is listed', good, Store([(apex, 9), (timed, 3)]), 0, status_response([apex.identifier, manager.identifier], [], **ref), Store([(apex, 9), (timed, 4)]))
+    answer = status_response([apex.identifier, manager.identifier], [], **ref)
+    call('the signing time is listed', good, Store([(apex, 9), (timed, 3)]), 0, answer, Store([(apex, 9), (timed, 4)]))
     timed = manager._replace(rights=[right(kind, limits=[(SIGNING_TIME, [other])])])
     refuse('the signing time is not listed', good, kind, 11, Store([(apex, 9), (timed, 3)]), **ref)
 
@@ -295,27 +309,33 @@ def updates():
     ]
     # the lab was not appended; of two numbers the last one stays
     numbers = [(sampler.identifier, 8), (lab.identifier, 9), (sampler.identifier, 7)]
-    call('entries of each kind', sign(manager, 'update', update(entries=[e[:2] for e in entries], numbers=numbers, **ref)), BASE, 0, update_confirm([e[2] for e in entries], **ref),
-         BASE._replace(anchors=[(apex, 9), (desk, None), (manager, 4), (sampler, 7), (stranger, None)]))
+    after = BASE._replace(anchors=[(apex, 9), (desk, None), (manager, 4), (sampler, 7), (stranger, None)])
+    message = sign(manager, 'update', update(entries=[e[:2] for e in entries], numbers=numbers, **ref))
+    call('entries of each kind', message, BASE, 0, update_confirm([e[2] for e in entries], **ref), after)
 
     # no entry applies, the number moves
     seventeen = [('add', sampler)] + [('remove', lab.key)] * 16
-    call('seventeen entries', sign(manager, 'update', update(entries=seventeen, numbers=[(sampler.identifier, 8)], **ref)), BASE, 17, error('update', 17, **ref), base(4))
+    message = sign(manager, 'update', update(entries=seventeen, numbers=[(sampler.identifier, 8)], **ref))
+    call('seventeen entries', message, BASE, 17, error('update', 17, **ref), base(4))
 
     greedy = sampler._replace(rights=[right(TEST)])
-    call('each entry fails, the number moves', sign(manager, 'update', update(entries=[('add', greedy), ('remove', apex.key)], **ref)), BASE, 0, update_confirm([11, 19], **ref), base(4))
+    message = sign(manager, 'update', update(entries=[('add', greedy), ('remove', apex.key)], **ref))
+    call('each entry fails, the number moves', message, BASE, 0, update_confirm([11, 19], **ref), base(4))
 
     # by the rights at acceptance, though the signer has left
     more = manager._replace(rights=manager.rights + [right(TEST)])
-    call('the manager leaves and comes back', sign(manager, 'update', update(entries=[('remove', manager.key), ('add', more), ('add', greedy), ('add', manager)], **ref)), BASE, 0,
-         update_confirm([0, 11, 11, 0], **ref), BASE._replace(anchors=[(apex, 9), (desk, None), (lab, None), (manager, None)]))
+    message = sign(manager, 'update', update(entries=[('remove', manager.key), ('add', more), ('add', greedy), ('add', manager)], **ref))
+    after = BASE._replace(anchors=[(apex, 9), (desk, None), (lab, None), (manager, None)])
+    call('the manager leaves and comes back', message, BASE, 0, update_confirm([0, 11, 11, 0], **ref), after)
 
     # anyContentType does not stand for a type that has an entry of its own
     every, no_test = right(str(rfc6010.id_ct_anyContentType)), right(TEST, source=False)
     deputy = manager._replace(rights=[every, no_test])
-    entries = [(sampler._replace(rights=[every]), 11), (sampler._replace(rights=[right(TEST)]), 11), (sampler._replace(rights=[no_test, every]), 0), (lab, 0)]
-    call('a deputy for all but test rows', sign(deputy, 'update', update(entries=[('add', a) for a, _ in entries], **ref)), Store([(apex, 9), (deputy, None)]), 0,
-         update_confirm([status for _, status in entries], **ref), Store([(apex, 9), (deputy, 4), (entries[2][0], None), (lab, None)]))
+    entries = [(sampler._replace(rights=[every]), 11), (sampler._replace(rights=[right(TEST)]), 11),
+               (sampler._replace(rights=[no_test, every]), 0), (lab, 0)]
+    message = sign(deputy, 'update', update(entries=[('add', a) for a, _ in entries], **ref))
+    after = Store([(apex, 9), (deputy, 4), (entries[2][0], None), (lab, None)])
+    call('a deputy for all but test rows', message, Store([(apex, 9), (deputy, None)]), 0, update_confirm([status for _, status in entries], **ref), after)
 
     # 32 anchors
     ref = {'number': 10, **ALL}
@@ -340,12 +360,12 @@ def community_updates():
         ('an identifier too long', {'remove': [long]}, 17, [VALLEY, FACTORY]),
     ]
     for name, lists, status, left in cases:
-        call(name, sign(manager, 'communityUpdate', communities(**lists, **ref)), BASE, status, community_confirm(status, **ref), base(4)._replace(communities=left))
+        message = sign(manager, 'communityUpdate', communities(**lists, **ref))
+        call(name, message, BASE, status, community_confirm(status, **ref), base(4)._replace(communities=left))
 
 
-run()
-wrappers()
-acceptance()
-paper()
-updates()
-community_updates()
+for part in (run, wrappers, acceptance, paper, updates, community_updates):
+    part()
+    common.say(len(CALLS), 'calls so far')
+for c in CALLS:
+    print(json.dumps(c))

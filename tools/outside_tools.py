@@ -1,16 +1,25 @@
-"""The two outside tools as functions, for the scripts that make the programs' input: Debian's python3-pyasn1-modules encodes anchors, messages and replies (RFC 5914, 6010, 5934, 5652),
-OpenSSL signs and verifies. Nothing here reads or writes DER by itself. Paths are those of the repository: run the scripts at its top.
+"""The two outside tools as functions, for the scripts that make the programs' input: Debian's python3-pyasn1-modules encodes anchors,
+messages and replies (RFC 5914, 6010, 5934, 5652), OpenSSL signs and verifies. Nothing here reads or writes DER by itself.
 """
-import os, subprocess
+import functools, hashlib, os, subprocess, sys, tempfile
 from typing import NamedTuple
-from pyasn1.codec.ber import encoder as ber
-from pyasn1.codec.der.decoder import decode
-from pyasn1.codec.der.encoder import encode
-from pyasn1.type import univ
-from pyasn1_modules import rfc5280, rfc5652, rfc5914, rfc5934, rfc6010
+import common
+try:
+    from pyasn1.codec.ber import encoder as ber
+    from pyasn1.codec.der.decoder import decode
+    from pyasn1.codec.der.encoder import encode
+    from pyasn1.error import PyAsn1Error
+    from pyasn1.type import univ
+    from pyasn1_modules import rfc5280, rfc5652, rfc5914, rfc5934, rfc6010
+except ImportError as error:
+    common.missing(error)
+
+common.need('openssl', 'openssl')
+common.need('xxd', 'xxd')
 
 KINDS = {'statusQuery': rfc5934.id_ct_TAMP_statusQuery, 'update': rfc5934.id_ct_TAMP_update,
          'communityUpdate': rfc5934.id_ct_TAMP_communityUpdate, 'seqNumAdjust': rfc5934.id_ct_TAMP_seqNumAdjust}
+ED25519 = '1.3.101.112'
 
 
 def type_of(kind):
@@ -49,7 +58,7 @@ def content_constraints(rights):
 def ed25519(octets):
     """a key of any octets, for where no signature is checked"""
     key = rfc5280.SubjectPublicKeyInfo()
-    key['algorithm']['algorithm'] = univ.ObjectIdentifier('1.3.101.112')
+    key['algorithm']['algorithm'] = univ.ObjectIdentifier(ED25519)
     key['subjectPublicKey'] = univ.BitString.fromOctetString(octets)
     return key
 
@@ -213,25 +222,103 @@ def content_info(type, content):
     return encode(outer)
 
 
+def set_of(attributes):
+    s = rfc5652.SignedAttributes()
+    s.extend(attributes)
+    return encode(s)
+
+
+def signed_data(kind, identifier, content, more=(), unsigned=(), digest=True, hash='sha256', sign=lambda attributes: bytes(64)):
+    """a message that pyasn1 encodes, signed by an Ed25519 key: `sign` is given the octets that the signature is of (RFC 5652, 5.4)"""
+    algorithm = univ.ObjectIdentifier({'sha256': '2.16.840.1.101.3.4.2.1', 'sha512': '2.16.840.1.101.3.4.2.3'}[hash])
+    s = rfc5652.SignedData()
+    s['version'] = 3
+    s['digestAlgorithms'][0]['algorithm'] = algorithm
+    s['encapContentInfo']['eContentType'] = type_of(kind)
+    s['encapContentInfo']['eContent'] = content
+    i = s['signerInfos'][0]
+    i['version'] = 3
+    i['sid']['subjectKeyIdentifier'] = identifier
+    i['digestAlgorithm']['algorithm'] = algorithm
+    attributes = [attribute('1.2.840.113549.1.9.3', type_of(kind))] + list(more)
+    if digest:
+        attributes.append(attribute('1.2.840.113549.1.9.4', univ.OctetString(hashlib.new(hash, content).digest())))
+    i['signedAttrs'].extend(attributes)
+    i['signatureAlgorithm']['algorithm'] = univ.ObjectIdentifier(ED25519)
+    i['signature'] = sign(set_of(attributes))
+    if unsigned:
+        i['unsignedAttrs'].extend(unsigned)
+    return content_info(rfc5652.id_signedData, s)
+
+
 # -- OpenSSL
+
+def openssl(*words, given=None):
+    """what the command prints, or None where it fails"""
+    done = subprocess.run(['openssl', *words], input=given, capture_output=True)
+    return done.stdout if done.returncode == 0 else None
+
+
+def script(name, *words, environment):
+    """what tools/NAME prints"""
+    done = subprocess.run([common.path('tools', name), *words], env={**os.environ, **environment}, stdout=subprocess.PIPE)
+    if done.returncode:
+        common.say(f'tools/{name} failed')
+        sys.exit(1)
+    return done.stdout
+
 
 def signed(kind, identifier, content, **environment):
     """content signed by tools/sign.sh, which says what the environment may hold; the identifier in hex"""
-    run = subprocess.run(['tools/sign.sh', identifier, str(type_of(kind)), content.hex()], env={**os.environ, **environment}, capture_output=True, check=True, text=True)
-    return bytes.fromhex(run.stdout.strip())
+    return bytes.fromhex(script('sign.sh', identifier, str(type_of(kind)), content.hex(), environment=environment).decode().strip())
+
+
+def signed_ed25519(kind, identifier, content, key_file):
+    """content signed by an Ed25519 key (RFC 8419), with `openssl pkeyutl`: `openssl cms` of OpenSSL 3.0 neither signs nor verifies with one"""
+    def sign(attributes):
+        with on_file(attributes) as file:
+            return openssl('pkeyutl', '-sign', '-rawin', '-inkey', key_file, '-in', file.name)
+    return signed_data(kind, identifier, content, hash='sha512', sign=sign)
+
+
+def on_file(octets):
+    file = tempfile.NamedTemporaryFile()
+    file.write(octets)
+    file.flush()
+    return file
+
+
+def verifies_ed25519(message, key_file):
+    try:
+        s = decode(decode(message, rfc5652.ContentInfo())[0]['content'], rfc5652.SignedData())[0]
+    except PyAsn1Error:
+        return False
+    i = s['signerInfos'][0]
+    if str(i['signatureAlgorithm']['algorithm']) != ED25519:
+        return False
+    digest = attribute('1.2.840.113549.1.9.4', univ.OctetString(hashlib.sha512(s['encapContentInfo']['eContent'].asOctets()).digest()))
+    with on_file(set_of(i['signedAttrs'])) as attributes, on_file(i['signature'].asOctets()) as signature:
+        verified = openssl('pkeyutl', '-verify', '-rawin', '-inkey', key_file, '-in', attributes.name, '-sigfile', signature.name)
+    return verified is not None and encode(digest) in map(encode, i['signedAttrs'])
 
 
 def certificate(key_file, identifier, **environment):
     """a certificate (PEM) of the key, which is made where there is no such file"""
-    return subprocess.run(['tools/certificate.sh', key_file, identifier], env={**os.environ, **environment}, capture_output=True, check=True).stdout
+    return script('certificate.sh', key_file, identifier, environment=environment)
 
 
 def public_key(key_file):
-    run = subprocess.run(['openssl', 'pkey', '-in', key_file, '-pubout', '-outform', 'DER'], capture_output=True, check=True)
-    return decode(run.stdout, rfc5280.SubjectPublicKeyInfo())[0]
+    return decode(openssl('pkey', '-in', key_file, '-pubout', '-outform', 'DER'), rfc5280.SubjectPublicKeyInfo())[0]
 
 
-def verifies(message, certificate_file):
-    """whether the certificate's key verifies signature and message digest"""
-    run = ['openssl', 'cms', '-verify', '-binary', '-inform', 'DER', '-certfile', certificate_file, '-nointern', '-noverify', '-out', os.devnull]
-    return subprocess.run(run, input=message, capture_output=True).returncode == 0
+@functools.lru_cache(None)
+def is_ed25519(key_file):
+    return str(public_key(key_file)['algorithm']['algorithm']) == ED25519
+
+
+def verifies(message, key_file, certificate_file):
+    """whether the key verifies signature and message digest; the certificate is one of it"""
+    if is_ed25519(key_file):
+        return verifies_ed25519(message, key_file)
+    options = ['-inform', 'DER', '-certfile', certificate_file, '-nointern', '-noverify', '-out', os.devnull]
+    return openssl('cms', '-verify', '-binary', *options, given=message) is not None

@@ -1,19 +1,20 @@
 #!/usr/bin/python3 -B
 """Input and expected output of the program rights_cases.
 
-    tools/rights_cases.py                  writes crates/rights_cases/stdin and stdout: P1 to P10 of document 01, on TrustAnchorInfo
-                                           octets that Debian's python3-pyasn1-modules encodes (rfc5914, rfc6010)
-    tools/rights_cases.py FILE PROGRAM     runs PROGRAM (the built rights_cases) on the cases of a rights.jsonl file and compares
+    tools/rights_cases.py                    writes crates/rights_cases/stdin and stdout: P1 to P10 of document 01, on TrustAnchorInfo
+                                             octets that Debian's python3-pyasn1-modules encodes (rfc5914, rfc6010)
+    tools/rights_cases.py FILE [PROGRAM]     runs the cases of a file through PROGRAM and compares
 
-A case is one octet W or A, one octet that says whether the (signing) anchor is the apex, and for
+A file has one JSON object a line: name, signer, new (hex), signer_is_apex, within; or name, anchor, type (hex), role, pairs, is_apex,
+authorises. PROGRAM is target/bin/rights_cases, as `rt check rights_cases` leaves it. Exit status 1 where a case differs, 2 for a bad file.
+
+The input of the program: a case is one octet W or A, one octet that says whether the (signing) anchor is the apex, and for
     W   signer and new anchor, each a 2-octet length and a TrustAnchorInfo; answered 'within' or 'not'
     A   one octet role (0 source, 1 carrier), the anchor, the content type (OID contents) and the attributes (an element that holds
         Attributes), each after a 2-octet length; answered 'authorised' or 'not'
 """
-import json
-import os
-import subprocess
 import sys
+import common
 
 
 def frame(octets):
@@ -36,10 +37,7 @@ def authorises_case(apex, carrier, anchor, content_type, pairs):
 
 
 def paper():
-    from pyasn1.codec.der.encoder import encode
-    from pyasn1.type import univ
-    from pyasn1_modules import rfc6010
-    from outside_tools import Anchor, anchor_info, ed25519, right
+    from outside_tools import Anchor, anchor_info, ed25519, encode, rfc6010, right, univ
 
     def anchor(n, rights):
         return anchor_info(Anchor(ed25519(bytes([n])), bytes([n]), rights=rights))
@@ -70,8 +68,7 @@ def paper():
 
 def from_file(path):
     given, expected, names = b'', [], []
-    for line in open(path):
-        case = json.loads(line)
+    for case in common.json_lines(path, 'name signer new signer_is_apex within', 'name anchor type role pairs is_apex authorises'):
         names.append(case['name'])
         if 'new' in case:
             given += within_case(case['signer_is_apex'], bytes.fromhex(case['signer']), bytes.fromhex(case['new']))
@@ -87,12 +84,14 @@ def from_file(path):
 def main():
     if len(sys.argv) == 1:
         given, expected = paper()
-        folder = os.path.join(os.path.dirname(os.path.abspath(__file__)), '..', 'crates', 'rights_cases')
-        open(os.path.join(folder, 'stdin'), 'wb').write(given)
-        open(os.path.join(folder, 'stdout'), 'w').write(expected)
+        open(common.path('crates/rights_cases/stdin'), 'wb').write(given)
+        open(common.path('crates/rights_cases/stdout'), 'w').write(expected)
         return
+    if len(sys.argv) > 3:
+        common.die('usage: tools/rights_cases.py [FILE [PROGRAM]]')
+    program = common.program('rights_cases', *sys.argv[2:])
     given, expected, names = from_file(sys.argv[1])
-    got = subprocess.run([sys.argv[2]], input=given, stdout=subprocess.PIPE, check=True).stdout.decode().split('\n')[:-1]
+    got = common.run(program, given).split('\n')[:-1]
     wrong = [n for n, e, g in zip(names, expected, got) if e != g]
     print('%d of %d agree' % (len(names) - len(wrong) - abs(len(got) - len(names)), len(names)))
     for name in wrong:

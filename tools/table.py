@@ -1,14 +1,15 @@
 #!/usr/bin/env python3
-"""table.py: makes the matcher's table from the grammar. Run it at the top of the repository after a change of specs/Asn.antt, Types.antt (syntaxOf) or Forms.antt
-of crates/syntax.
+"""table.py: makes the matcher's table from the grammar. Run it after a change of specs/Asn.antt, Types.antt (syntaxOf) or Forms.antt of
+crates/syntax.
 
-It reads those files and writes src/table.rt (the constant array), specs/Table.antt (the same rows as data) and proofs/Ties.antt (a theorem for each named type and each
-form: its row stands for it). A row is four octets: kind, tag or argument, body's row, next row; it names only rows above it, and equal rows are one.
-What a kind stands for is said by specs/Rows.antt.
+It reads those files and writes src/table.rt (the constant array), specs/Table.antt (the same rows as data) and proofs/Ties.antt (the rows
+of the named types and of the forms stand for them). A row is four octets: kind, tag or argument, body's row, next row; it names only
+rows above it, and equal rows are one. What a kind stands for is said by specs/Rows.antt.
 """
 import re
+import common
 
-CRATE = 'crates/syntax/'
+CRATE = common.path('crates', 'syntax', '')
 KINDS = ['free', 'end', 'optional', 'required', 'one', 'anyOptional', 'many']
 RULES = ['notEmpty', 'sizeTo', 'empty', 'equals', 'equals given', 'integerBut', 'seqNumber']
 
@@ -222,19 +223,19 @@ def main():
     spec += [f'attributeRow {p} = {n}' for p, n in attribute_rows]
     write('specs/Table.antt', spec)
 
-    names = [n for n, _ in ties]
+    # the one type whose rule takes the caller's octets is a form, and tied there
+    ties = [(name, n) for name, n in ties if name != 'ContentInfoSignedData']
+    names = [name for name, _ in ties]
     proof = [f'-- {note}', '-- Each named type, and each form, is what its row stands for. A stale table fails here.',
-             'use Prim.Native.Nat.{ℕ, _<_}', 'use native.Mathlib.Omega.{arith}', 'use mathlib.Core.List.{List}', 'use mathlib.Core.Path.{_≡_, refl}'] + declared
-    proof += ['use Rattle.syntax.specs.Asn.{id-signedData, ' + ', '.join(part) + '}' if not i else 'use Rattle.syntax.specs.Asn.{' + ', '.join(part) + '}'
-              for i, part in enumerate(names[i:i + 6] for i in range(0, len(names), 6))]
+             'use Prim.Native.Nat.{ℕ}', 'use mathlib.Core.List.{List, [], _∷_, map}', 'use mathlib.Core.Path.{_≡_, refl}'] + declared
+    proof += ['use Rattle.syntax.specs.Asn.{' + ', '.join(part) + '}' for part in chunks(['id-signedData'] + names, 7)]
     proof += ['use Rattle.syntax.specs.Types.{syntaxOf}', 'use Rattle.syntax.specs.Forms.{formSyntax, attributeSyntax}',
-              'use Rattle.syntax.specs.Table.{count, rows, messageRow, formRow, attributeRow}',
+              'use Rattle.syntax.specs.Table.{rows, messageRow, formRow, attributeRow}',
               'use Rattle.syntax.specs.Rows.{ruleOf, rowSyntax, grown, grammarOf}', '']
     opened = 'unfolding rows ruleOf rowSyntax grown'
-    for name, n in ties:
-        o = 'id-signedData' if name == 'ContentInfoSignedData' else ''
-        proof += [f'is{name} : grammarOf {o} {n} ≡ {name}' if o else f'is{name} : (o : List ℕ) → grammarOf o {n} ≡ {name}', opened,
-                  f'is{name} = refl' if o else f'is{name} o = refl', '']
+    proof += ['types-are : (o : List ℕ) → map (grammarOf o)', '    (' + ' ∷ '.join(str(n) for _, n in ties) + ' ∷ [])', '    ≡']
+    proof += ['    ' + ('∷ ' if i else '') + ' ∷ '.join(part) for i, part in enumerate(chunks(names, 6))]
+    proof += ['    ∷ []', opened, 'types-are o = refl', '']
     proof += ['pub message-is : (o : List ℕ) (kind : TampType) → grammarOf o (messageRow kind) ≡ syntaxOf kind', opened + ' syntaxOf']
     proof += [f'message-is o {p} = refl' for p, _ in message_rows]
     proof += ['', 'pub form-is : (f : Form) → grammarOf id-signedData (formRow f) ≡ formSyntax f', opened + ' formSyntax']
@@ -242,14 +243,12 @@ def main():
     proof += ['', 'pub attribute-is : (o : List ℕ) (f : AttributeForm) → grammarOf o (attributeRow f) ≡ attributeSyntax f o',
               opened + ' attributeSyntax']
     proof += [f'attribute-is o {p} = refl' for p, _ in attribute_rows]
-    proof += ['', '-- they are rows of the table', '', 'pub message-in : (kind : TampType) → messageRow kind < count']
-    proof += [f'message-in {p} = omega arith' for p, _ in message_rows]
-    proof += ['', 'pub form-in : (f : Form) → formRow f < count']
-    proof += [f'form-in {p} = omega arith' for p, _ in form_rows] + ['form-in (form.Message kind) = message-in kind']
-    proof += ['', 'pub attribute-in : (f : AttributeForm) → attributeRow f < count']
-    proof += [f'attribute-in {p} = omega arith' for p, _ in attribute_rows]
     write('proofs/Ties.antt', proof)
     print(f'{count} rows, {len(ties)} types')
+
+
+def chunks(l, n):
+    return [l[i:i + n] for i in range(0, len(l), n)]
 
 
 def write(name, lines):

@@ -1,28 +1,26 @@
 -- The faults of content constraints, gathered by the loops; and that they are the tests of Judge on the rights.
-use Prim.Native.Nat.{ℕ, suc, _≤_, _<_}
+use Prim.Native.Nat.{ℕ, suc, _-_, _≤_, _<_}
 use native.Mathlib.Omega.{arith}
 use mathlib.Core.Bool.{Bool, true, false, not, _&&_, _||_, or-assoc, or-false}
 use mathlib.Core.List.{List, [], _∷_, map, map-map}
 use mathlib.Core.Path.{_≡_, refl, sym, ap, ap₂, _∙_}
 use lib.ListN.{length}
 use lib.Dec.{ltb, eqb}
-use borrow.Author.Tests.{eqb-true, eqb-false, lt-ltb, le-ltb}
+use borrow.Author.Tests.{eqb-true, eqb-false, ltb-true, ltb-false, lt-ltb, le-ltb}
 use Rattle.octets.specs.Limits.{maxEntries, maxAttributes, maxValues, maxValueOctets}
 use Rattle.octets.specs.Lists.{allOf, anyOf}
 use Rattle.octets.specs.Octets.{same, distinct}
-use Rattle.octets.proofs.Lists.{by-test}
+use Rattle.octets.proofs.Lists.{by-test, anyOf-map}
 use Rattle.der.specs.declared.Element.{Element}
 use Rattle.der.specs.Element.{elementAt, elements, root, whole, contents, field, inside, nextAt}
-use Rattle.der.proofs.Elements.{elements-end}
 use Rattle.rights.specs.Rights.{Key, Constraints, Entry, Rights, anyContentType}
 use Rattle.rights.specs.Constraints.{attrConstraint, contentTypeConstraint, constraintsRights}
 use Rattle.anchor.specs.declared.Faults.{Faults}
-use Rattle.repeats.specs.declared.Compared.the-variants.{Types, Octets}
+use Rattle.der.specs.declared.Compared.the-variants.{Types, Octets}
 use Rattle.anchor.specs.Judge.{typesIn, repeatedConstraint, anyContentTypeUnlike, overEntries, overAttributes, overValues, overValueOctets}
-use Rattle.repeats.specs.Keys.{keyOf}
+use Rattle.der.specs.Keys.{keyOf}
 use Rattle.anchor.specs.Faults.{noFaults, together, faultsIn, attributeFaults, isUnlike, entryFaults, rightsFaults}
-use Rattle.der.proofs.Runs.{run-turn}
-use Rattle.anchor.proofs.Runs.{anyOf-map}
+use Rattle.der.proofs.Loops.{loop-end, loop-turn}
 
 pub together-assoc : (a b c : Faults) → together (together a b) c ≡ together a (together b c)
 unfolding together
@@ -37,15 +35,37 @@ unfolding together
 none-together a = refl
 
 -- a loop that adds each member's faults to those that it has found
-module _ {A : Type 0} (f : A → Faults) (g : Element → A) (s : List ℕ) (at stop : ℕ) (found : Faults) where
-  pub faults-end : stop ≤ at → together found (faultsIn f (map g (elements s at stop))) ≡ found
+module _ {A : Type 0} (f : A → Faults) (g : Element → A) (s : List ℕ) (at stop : ℕ) (found : Faults) {x : Faults}
+    (rest : together found (faultsIn f (map g (elements s at stop))) ≡ x) where
+  pub faults-all : stop ≤ at → found ≡ x
   unfolding faultsIn
-  faults-end h = rw (elements-end s at stop h) (together-none found)
+  faults-all h = sym (together-none found) ∙ loop-end (λ l. together found (faultsIn f (map g l))) s at stop rest h
 
-  module _ {e : Element} (q : e ≡ elementAt s at stop) (l : at < stop) {n : ℕ} (m : n ≡ nextAt e stop) {x y : Faults} (hx : x ≡ f (g e)) (hy : y ≡ together found x) where
-    pub faults-turn : together found (faultsIn f (map g (elements s at stop))) ≡ together y (faultsIn f (map g (elements s n stop)))
-    unfolding faultsIn
-    faults-turn = rw (run-turn s at stop q l m, hy, hx) (sym (together-assoc found (f (g e)) (faultsIn f (map g (elements s n stop)))))
+  pub faults-more : at < stop → {e : Element} → e ≡ elementAt s at stop → {y : Faults} → y ≡ f (g e) → {z : Faults} → z ≡ together found y
+      → {n : ℕ} → n ≡ nextAt e stop → together z (faultsIn f (map g (elements s n stop))) ≡ x
+  unfolding faultsIn
+  faults-more l {e} q hy hz {n} m =
+      rw (hz, hy)
+      (together-assoc found (f (g e)) (faultsIn f (map g (elements s n stop)))
+      ∙ loop-turn (λ l. together found (faultsIn f (map g l))) s at stop rest l q m)
+
+-- a loop that counts down to more members than a number
+
+more-down : (k n : ℕ) → 0 < k → ltb k (suc n) ≡ ltb (k - 1) n
+more-down k n h =
+    by-test (ltb (k - 1) n)
+    (λ t. let u = ltb-true (k - 1) n t in lt-ltb k (suc n) (omega arith) ∙ sym t)
+    (λ t. let u = ltb-false (k - 1) n t in le-ltb k (suc n) (omega arith) ∙ sym t)
+
+module _ (k : ℕ) (s : List ℕ) (at stop : ℕ) {x : Bool} (rest : ltb k (length (elements s at stop)) ≡ x) where
+  pub more-none : stop ≤ at → false ≡ x
+  more-none h = sym (le-ltb k 0 (omega arith)) ∙ loop-end (λ l. ltb k (length l)) s at stop rest h
+
+  pub more-here : at < stop → k ≡ 0 → true ≡ x
+  more-here l z = sym (lt-ltb k _ (omega arith)) ∙ loop-turn (λ l. ltb k (length l)) s at stop rest l refl refl
+
+  pub more-later : at < stop → (k ≡ 0 → ⊥) → {e : Element} → e ≡ elementAt s at stop → {n : ℕ} → n ≡ nextAt e stop → ltb (k - 1) (length (elements s n stop)) ≡ x
+  more-later l z q m = sym (more-down k _ (omega arith)) ∙ loop-turn (λ l. ltb k (length l)) s at stop rest l q m
 
 map-length : {A B : Type 0} (f : A → B) (l : List A) → length (map f l) ≡ length l
 map-length f [] = refl

@@ -28,7 +28,7 @@ use Rattle.rights.specs.Constraints.{constraintsRights}
 use Rattle.anchor.specs.declared.Judged.{Judged}
 use Rattle.anchor.specs.declared.Judged.the-variants as judged
 use Rattle.anchor.specs.declared.Faults.{Faults}
-use Rattle.repeats.specs.declared.Compared.the-variants.{Types}
+use Rattle.der.specs.declared.Compared.the-variants.{Types}
 use Rattle.anchor.specs.Info.{
   version,
   keyIdField,
@@ -59,7 +59,7 @@ use Rattle.anchor.specs.Judge.{
   judge,
   storable,
 }
-use Rattle.repeats.specs.Keys.{keyOf}
+use Rattle.der.specs.Keys.{keyOf}
 use Rattle.anchor.specs.Faults.{isOtherCritical, rightsFaults}
 use Rattle.anchor.proofs.Constraints.{repeated-fault, unlike-fault, entries-fault, attributes-fault, values-fault, octets-fault}
 use Rattle.anchor.proofs.Rights.{value-rights}

@@ -1,10 +1,12 @@
 -- A TrustAnchorInfo (RFC 5914) as octets by itself: its parts, and the rights that its content constraints give.
 use Prim.Native.Nat.{ℕ}
 use mathlib.Core.Bool.{Bool, true, false}
-use mathlib.Core.List.{List, [], _∷_}
+use mathlib.Core.List.{List}
 use Rattle.octets.specs.Octets.{same}
 use Rattle.der.specs.declared.Element.{Element}
-use Rattle.der.specs.Element.{absent, root, whole, contents, inside, field, fieldBehind}
+use Rattle.der.specs.declared.Compared.the-variants.{Types}
+use Rattle.der.specs.Element.{root, whole, contents, inside, field, fieldBehind}
+use Rattle.der.specs.Keys.{typeOf, firstWith, elementFound}
 use Rattle.syntax.specs.Types.{id-pe-cmsContentConstraints}
 use Rattle.rights.specs.Rights.{Rights, nothing}
 use Rattle.rights.specs.Constraints.{constraintsRights}
@@ -30,9 +32,6 @@ certPath t = fieldBehind 0x30 t (root t) (keyIdField t)
 unfoldable pub extensions : List ℕ → List Element
 extensions t = inside t (field 0x30 t (field 0xA1 t (root t)))
 
-abbrev pub extnID : List ℕ → Element → List ℕ
-extnID t e = contents t (field 0x06 t e)
-
 abbrev pub critical : List ℕ → Element → Bool
 critical t e = field 0x01 t e .good
 
@@ -40,12 +39,11 @@ abbrev pub extnValue : List ℕ → Element → List ℕ
 extnValue t e = contents t (field 0x04 t e)
 
 abbrev pub isConstraints : List ℕ → Element → Bool
-isConstraints t e = same (extnID t e) id-pe-cmsContentConstraints
+isConstraints t e = same (typeOf t e) id-pe-cmsContentConstraints
 
 -- the first content constraints extension
 unfoldable pub constraintsIn : List ℕ → List Element → Element
-constraintsIn t [] = absent 0
-constraintsIn t (e ∷ es) = elim (isConstraints t e) [ true ↦ e | false ↦ constraintsIn t es ]
+constraintsIn t es = elementFound (firstWith Types t id-pe-cmsContentConstraints es)
 
 unfoldable pub constraintsExtension : List ℕ → Element
 constraintsExtension t = constraintsIn t (extensions t)

@@ -12,17 +12,17 @@ use Rattle.octets.specs.Lists.{allOf, anyOf}
 use Rattle.octets.specs.Octets.{same, distinct}
 use Rattle.der.specs.Fit.{andThen, kept}
 use Rattle.der.specs.Check.{spans}
+use Rattle.der.specs.Keys.{typeOf}
 use Rattle.syntax.specs.Grammar.{Syntax, fit}
 use Rattle.syntax.specs.Asn.{StoredTrustAnchorInfo, CMSContentConstraints}
 use Rattle.rights.specs.Rights.{Key, Rights, anyContentType}
 use Rattle.anchor.specs.declared.Judged.{Judged}
 use Rattle.anchor.specs.declared.Judged.the-variants as judged
-use Rattle.anchor.specs.Info.{version, keyIdentifier, certPath, extensions, extnID, critical, isConstraints, hasConstraints, constraintsValue, rightsOf}
+use Rattle.anchor.specs.Info.{version, keyIdentifier, certPath, extensions, critical, isConstraints, hasConstraints, constraintsValue, rightsOf}
 
 -- 01's numbers
 unfoldable pub statusOf : Judged → Status
 statusOf judged.Passes = success
-statusOf judged.CertificateForm = unsupportedTrustAnchorFormat
 statusOf judged.OtherVersion = unsupportedTrustAnchorFormat
 statusOf judged.CertPath = unsupportedTrustAnchorFormat
 statusOf judged.RepeatedExtension = unsupportedTrustAnchorFormat
@@ -46,7 +46,7 @@ conforms g t = kept (andThen (spans maxDepth t 0 (length t) 0) (fit g t 0 (lengt
 
 -- 34, "a repeated extension"
 unfoldable pub repeatedExtension : List ℕ → Bool
-repeatedExtension t = not (distinct (map (extnID t) (extensions t)))
+repeatedExtension t = not (distinct (map (typeOf t) (extensions t)))
 
 -- 34, "a critical one but content constraints"
 unfoldable pub criticalExtension : List ℕ → Bool

@@ -16,7 +16,7 @@ use Rattle.der.specs.declared.Element.{Element}
 use Rattle.der.specs.Element.{elementAt, contents, nextAt}
 use Rattle.store.specs.Image.{encodeName}
 use Rattle.store.specs.Parts.{namesFrom}
-use Rattle.edit.proofs.Sections.{flatMap-append}
+use Rattle.store.proofs.Standing.{flatMap-append}
 use Rattle.protocol.specs.Community.{afterRemovals}
 use Rattle.protocol.proofs.Lists.{keep-append}
 use Rattle.apply.specs.declared.Grown.{Grown}

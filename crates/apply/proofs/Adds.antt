@@ -24,7 +24,7 @@ use Rattle.store.specs.Records.{recordsOf}
 use Rattle.store.specs.Parts.{anchorCount, infoIn, isSought, firstFrom}
 use Rattle.store.proofs.Formats.{rules, from-rules}
 use Rattle.store.proofs.Parts.{isAt, first-any}
-use Rattle.edit.specs.Steps.{withOthers, oneMore}
+use Rattle.store.specs.Steps.{withOthers, oneMore}
 use Rattle.protocol.specs.Update.{Step, unnumbered, unchanged, added, hasKey}
 use Rattle.protocol.proofs.WellFormed.{GoodAnchors, good-added}
 use Rattle.apply.specs.declared.Applied.the-variants.{Done, Failed}

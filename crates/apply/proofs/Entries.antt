@@ -12,7 +12,7 @@ use Rattle.anchor.specs.declared.Judged.{Judged}
 use Rattle.anchor.specs.declared.Judged.the-variants as judged
 use Rattle.anchor.specs.Judge.{judge, statusOf as judgedStatus}
 use Rattle.store.specs.Store.{Anchor}
-use Rattle.edit.specs.Steps.{withOthers}
+use Rattle.store.specs.Steps.{withOthers}
 use Rattle.message.specs.declared.Entry.{Entry}
 use Rattle.message.specs.declared.Entry.the-variants as entry
 use Rattle.message.specs.Fields.{keyIn}
@@ -47,62 +47,12 @@ module _ (s : List ℕ) where
     unfolding step
     step-change q = unmoved (λ apex old new. step s rights apex old new x) (λ σ old new h. rw q)
 
--- every status of an entry is an octet
-module _ (s : List ℕ) (rights : Rights) (apex : Anchor) (old new : List Anchor) where
-  abbrev Small : Step → Type 0
-  Small done = done .status .number < 256
-
-  judged-small : (j : Judged) → judgedStatus j .number < 256
-  unfolding judgedStatus
-  judged-small judged.Passes = lit< tt
-  judged-small judged.CertificateForm = lit< tt
-  judged-small judged.OtherVersion = lit< tt
-  judged-small judged.CertPath = lit< tt
-  judged-small judged.RepeatedExtension = lit< tt
-  judged-small judged.CriticalExtension = lit< tt
-  judged-small judged.ConstraintsSyntax = lit< tt
-  judged-small judged.RepeatedConstraint = lit< tt
-  judged-small judged.AnyContentTypeEntry = lit< tt
-  judged-small judged.AnchorOctets = lit< tt
-  judged-small judged.KeyIdentifierOctets = lit< tt
-  judged-small judged.EntryCount = lit< tt
-  judged-small judged.AttributeCount = lit< tt
-  judged-small judged.ValueCount = lit< tt
-  judged-small judged.ValueOctets = lit< tt
-
-  added-small : (t : List ℕ) → Small (added rights apex old new t)
-  unfolding added
-  added-small t =
-      by-given Small _ (λ _. judged-small (judge t)) (λ _.
-      by-given Small _ (λ _. lit< tt) (λ _.
-      by-given Small _ (λ _. lit< tt) (λ _.
-      by-given Small _ (λ _. lit< tt) (λ _.
-      by-given Small _ (λ _. lit< tt) (λ _. lit< tt)))))
-
-  removed-small : (key : List ℕ) → Small (removed rights apex old new key)
-  unfolding removed
-  removed-small key =
-      by-given Small _ (λ _. lit< tt) (λ _.
-      by-given Small _ (λ _. lit< tt) (λ _.
-      by-given Small _ (λ _. lit< tt) (λ _. lit< tt)))
-
-  pub step-small : (x : Entry) → Small (step s rights apex old new x)
-  unfolding step
-  step-small (entry.Add e) = added-small (whole s e)
-  step-small entry.AddCertificate = judged-small judged.CertificateForm
-  step-small (entry.Remove e) = removed-small (keyIn s e)
-  step-small entry.Change = lit< tt
-
 pub scratch-of : {d : List ℕ} {len k : ℕ} → ScratchBoth d len k → Scratch d len
 scratch-of w = record { room = w .room; store = withOthers (w .old ++ w .new) (w .store); holds = w .holds .holds }
 
 -- what an entry comes to, by its answer
 module _ (s : List ℕ) (rights : Rights) (d : List ℕ) (len k : ℕ) {x y : Entry} {r : Applied} {d′ : List ℕ} (q : x ≡ y)
     (a : Applies (λ apex old new. step s rights apex old new x) d len k r d′) where
-  pub enter-small : ScratchBoth d len k → statusOf r .number < 256
-  enter-small w =
-      rw (a .does (w .store) (w .old) (w .new) (w .holds) .status) (step-small s rights (w .store .apex) (w .old) (w .new) x)
-
   pub enter-failed : {status : Status} {code : ℕ} → r ≡ Failed status → code ≡ statusOf r .number
       → Enters (λ apex old new. step s rights apex old new y) d len k (record { code = code; len = len; old = k }) d′
   enter-failed e c =

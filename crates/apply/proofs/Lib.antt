@@ -1,5 +1,4 @@
 pub mod Edits
-pub mod Image
 pub mod Found
 pub mod Stored
 pub mod Held

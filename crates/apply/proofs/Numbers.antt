@@ -11,23 +11,21 @@ use Rattle.octets.specs.Octets.{same, placed}
 use Rattle.octets.proofs.Lists.{both}
 use Rattle.octets.proofs.Placed.{length-placed}
 use Rattle.store.specs.Store.{Anchor, Store, anchors, identifierOf}
-use Rattle.store.specs.Image.{encodeAnchor, encodeNumber, wellFormed}
-use Rattle.store.specs.Parts.{anchorCount, firstRecord, recordEnd, recordAt, recordPlace, infoIn, identifierIn}
+use Rattle.store.specs.Image.{encodeNumber, encode, wellFormed}
+use Rattle.store.specs.Parts.{anchorCount, recordEnd, recordAt, placeOf, infoIn, identifierIn}
 use Rattle.store.proofs.Formats.{rules}
-use Rattle.store.proofs.Sizes.{length-encodeNumber, length-encodeAnchor}
-use Rattle.edit.specs.Places.{countAt, placeOf}
-use Rattle.edit.specs.Steps.{withOthers}
-use Rattle.edit.proofs.Sections.{size, size-more}
-use Rattle.edit.proofs.Places.{place-of, place-inside}
-use Rattle.edit.proofs.Anchors.{number-law, count-stays}
+use Rattle.store.proofs.Sizes.{length-encodeNumber}
+use Rattle.store.specs.Steps.{withOthers}
+use Rattle.store.proofs.Standing.{upTo, next-place, place-is, info-here}
+use Rattle.edit.proofs.Replaced.{take-placed}
 use Rattle.protocol.specs.Update.{numbered, stamped}
-use Rattle.protocol.specs.Effect.{withNumber}
+use Rattle.protocol.specs.Effect.{numberSet, withNumber}
 use Rattle.protocol.proofs.WellFormed.{Good, good-withNumber}
 use Rattle.apply.specs.Scratch.{Holds, HoldsBoth, ScratchBoth}
 use Rattle.apply.specs.Edits.{Stampable, Stamps, Renumbers}
-use Rattle.apply.proofs.Edits.{numberSet-at}
-use Rattle.apply.proofs.Image as image
-use Rattle.apply.proofs.Held.{end-before, counted, place-is, record-end-is}
+use Rattle.apply.proofs.Edits.{numberSet-at, set-number-law}
+use Rattle.apply.proofs.Held.{counted, record-end-is, inside-is}
+use Rattle.apply.proofs.Held as held
 use Rattle.apply.proofs.Adds.{with-anchors, good-anchors}
 
 good-of : (σ : Store) → wellFormed σ ≡ true → Good σ
@@ -49,20 +47,23 @@ numbered-good σ x y a n e b g =
 -- one anchor
 
 module _ {d : List ℕ} {len p n : ℕ} (w : Stampable d len p n) where
-  pub stamp-inside : p + 9 ≤ length d
+  pub stamp-inside : p + 9 ≤ len
   stamp-inside =
       let σ = w .store in
-      let i = place-inside σ (σ .apex ∷ w .before) (w .behind) (w .anchor) (ap (λ (l : List Anchor). σ .apex ∷ l) (w .parts)) in
-      omega (arith, w .place, i .1, end-before σ d len (w .holds), w .holds .inside)
+      let x = σ .apex ∷ w .before in
+      let all = ap (λ (l : List Anchor). σ .apex ∷ l) (w .parts) in
+      let i = inside-is σ d len (w .holds) x (w .behind) (w .anchor) all in
+      let q = w .place ∙ place-is σ (w .holds .good) x (w .anchor ∷ w .behind) all in
+      omega (arith, w .holds .inside)
 
   module _ {found : List ℕ} (f : found ≡ identifierIn (recordAt (take len d) p)) (id : List ℕ) {b : Bool} (s : b ≡ same found id) where
-    identified : (σ : Store) (x y : List Anchor) (a : Anchor) → Holds σ d len → σ .others ≡ x ++ (a ∷ y) → p ≡ placeOf σ (suc (length x))
+    identified : (σ : Store) (x y : List Anchor) (a : Anchor) → Holds σ d len → σ .others ≡ x ++ (a ∷ y) → p ≡ placeOf (encode σ) (suc (length x))
         → same (identifierOf a) id ≡ b
     identified σ x y a h e q =
+        let all = ap (λ (l : List Anchor). σ .apex ∷ l) e in
         let i : infoIn (recordAt (take len d) p) ≡ a .info =
-        ap (λ (j : ℕ). infoIn (recordAt (take len d) j)) q
-        ∙ ap (λ (r : List ℕ). infoIn (recordAt r (placeOf σ (suc (length x))))) (h .image)
-        ∙ image.info-here σ (h .good) (σ .apex ∷ x) y a (ap (λ (l : List Anchor). σ .apex ∷ l) e)
+        ap₂ (λ (j : ℕ) (r : List ℕ). infoIn (recordAt r j)) (q ∙ place-is σ (h .good) (σ .apex ∷ x) (a ∷ y) all) (h .image)
+        ∙ info-here σ (h .good) (σ .apex ∷ x) y a all
         in
         ap (λ (r : List ℕ). same r id) (sym (f ∙ ap (λ (t : List ℕ). identifierOf (record { number = a .number; info = t })) i)) ∙ sym s
 
@@ -77,20 +78,27 @@ module _ {d : List ℕ} {len p n : ℕ} (w : Stampable d len p n) where
         }
 
     pub stamp-set : b ≡ true → {d′ : List ℕ} → d′ ≡ placed d p (encodeNumber (some n)) → Stamps d len p id n d′
-    unfolding stamped
-    stamp-set z {d′} k =
-        let l : length d′ ≡ length d = ap length k ∙ length-placed d p (encodeNumber (some n)) (omega (arith, length-encodeNumber (some n), stamp-inside)) in
+    unfolding stamped withNumber
+    stamp-set y {d′} k =
+        let z = length-encodeNumber (some n) in
+        let b = stamp-inside in
+        let j = w .holds .inside in
+        let l : length d′ ≡ length d = ap length k ∙ length-placed d p (encodeNumber (some n)) (omega arith) in
         record {
           room = l;
-          stamps = λ σ x y a h e q.
-              let t : stamped (id, n) a ≡ numbered n a = rw (identified σ x y a h e q ∙ z, stamped) in
+          stamps = λ σ x v a h e q.
+              let t : stamped (id, n) a ≡ numbered n a = rw (identified σ x v a h e q ∙ y, stamped) in
+              let m : suc (length x) < length (anchors σ) = omega (arith, ap length e, length-append x (a ∷ v)) in
               rw t
               (record {
                 image =
-                    ap (take len) (k ∙ ap (λ (j : ℕ). placed d j (encodeNumber (some n))) q)
-                    ∙ number-law σ d len (h .image) (h .inside) x y a e n;
+                    ap (take len) k
+                    ∙ take-placed d len p (encodeNumber (some n)) (omega arith) j
+                    ∙ ap₂ (λ (s : List ℕ) (o : ℕ). placed s o (encodeNumber (some n))) (h .image) q
+                    ∙ set-number-law σ (h .good) (suc (length x)) n m
+                    ∙ ap (λ (r : List Anchor). encode (withOthers r σ)) (ap (numberSet (length x) n) e ∙ numberSet-at n x v a);
                 inside = omega (arith, h .inside);
-                good = numbered-good σ x y a n e (w .small) (h .good);
+                good = numbered-good σ x v a n e (w .small) (h .good);
               });
         }
 
@@ -116,20 +124,19 @@ module _ (id : List ℕ) (n : ℕ) (d₀ : List ℕ) (len k count : ℕ) where
     pub holds : HoldsBoth σ old (done ++ rest) d len k
     pub at : j ≡ suc (k + length done)
     pub left : count ≡ j + length rest
-    pub place : p ≡ countAt σ + 1 + size encodeAnchor (σ .apex ∷ (old ++ done))
+    pub place : p ≡ upTo σ (σ .apex ∷ (old ++ done))
 
   pub record Stamping (d : List ℕ) (j p : ℕ) : Type 0 where
     pub room : length d ≡ length d₀
     pub seen : (σ : Store) (old new : List Anchor) → HoldsBoth σ old new d₀ len k → Seen σ old new d j p
 
-  pub stamping-start : count ≡ anchorCount (take len d₀) → {p : ℕ} → p ≡ recordPlace (take len d₀) (firstRecord (take len d₀)) (k + 1) → Stamping d₀ (k + 1) p
+  pub stamping-start : count ≡ anchorCount (take len d₀) → {p : ℕ} → p ≡ placeOf (take len d₀) (k + 1) → Stamping d₀ (k + 1) p
   stamping-start c {p} q =
       record {
         room = refl;
         seen = λ σ old new h.
             let τ = withOthers (old ++ new) σ in
             let l : k + 1 ≡ length (σ .apex ∷ old) = omega (arith, h .count) in
-            let inside : length (σ .apex ∷ old) ≤ length (anchors τ) = omega (arith, length-append old new) in
             record {
               done = [];
               rest = new;
@@ -139,10 +146,9 @@ module _ (id : List ℕ) (n : ℕ) (d₀ : List ℕ) (len k count : ℕ) where
               left = omega (arith, c, counted τ d₀ len (h .holds), length-append old new, h .count);
               place =
                   q
-                  ∙ ap (recordPlace (take len d₀) (firstRecord (take len d₀))) l
-                  ∙ place-is τ d₀ len (h .holds) (length (σ .apex ∷ old)) inside
-                  ∙ place-of τ (σ .apex ∷ old) new refl
-                  ∙ ap₂ (λ (x : ℕ) (r : List Anchor). x + 1 + size encodeAnchor (σ .apex ∷ r)) (count-stays σ (old ++ new)) (sym (append-nil old));
+                  ∙ ap (placeOf (take len d₀)) l
+                  ∙ held.place-is τ d₀ len (h .holds) (σ .apex ∷ old) new refl
+                  ∙ ap (λ (r : List Anchor). upTo σ (σ .apex ∷ r)) (sym (append-nil old));
             };
       }
 
@@ -152,7 +158,7 @@ module _ (id : List ℕ) (n : ℕ) (d₀ : List ℕ) (len k count : ℕ) where
     behind : List Anchor
     rest : v .rest ≡ anchor ∷ behind
     parts : old ++ (v .done ++ v .rest) ≡ (old ++ v .done) ++ (anchor ∷ behind)
-    place : p ≡ placeOf (withOthers (old ++ (v .done ++ v .rest)) σ) (suc (length (old ++ v .done)))
+    place : p ≡ placeOf (encode (withOthers (old ++ (v .done ++ v .rest)) σ)) (suc (length (old ++ v .done)))
 
   next : (σ : Store) (old new : List Anchor) (d : List ℕ) (j p : ℕ) (v : Seen σ old new d j p) → j < count → Next σ old new d j p v
   next σ old new d j p v h =
@@ -166,8 +172,7 @@ module _ (id : List ℕ) (n : ℕ) (d₀ : List ℕ) (len k count : ℕ) where
         parts = e;
         place =
             v .place
-            ∙ ap (λ (x : ℕ). x + 1 + size encodeAnchor (σ .apex ∷ (old ++ v .done))) (sym (count-stays σ l))
-            ∙ sym (place-of (withOthers l σ) (σ .apex ∷ (old ++ v .done)) (f .0 ∷ f .1) (ap (λ (r : List Anchor). σ .apex ∷ r) e));
+            ∙ sym (place-is (withOthers l σ) (v .holds .holds .good) (σ .apex ∷ (old ++ v .done)) (f .0 ∷ f .1) (ap (λ (r : List Anchor). σ .apex ∷ r) e));
       }
 
   module _ {d : List ℕ} {j p : ℕ} (w : Stamping d j p) where
@@ -217,17 +222,12 @@ module _ (id : List ℕ) (n : ℕ) (d₀ : List ℕ) (len k count : ℕ) where
             s .stamps (withOthers (old ++ (v .done ++ v .rest)) σ) x (m .behind) (m .anchor) (v .holds .holds) (m .parts) (m .place)
             in
             let τ = withOthers (x ++ (a ∷ m .behind)) σ in
-            let here : p ≡ placeOf τ (suc (length x)) =
-            v .place
-            ∙ ap (λ (c : ℕ). c + 1 + size encodeAnchor (σ .apex ∷ x)) (sym (count-stays σ (x ++ (a ∷ m .behind))))
-            ∙ sym (place-of τ (σ .apex ∷ x) (a ∷ m .behind) refl)
-            in
-            let end : p′ ≡ p + (11 + length (a .info)) =
-            q ∙ ap (recordEnd (take len d′)) here ∙ record-end-is τ d′ len h (σ .apex ∷ x) (m .behind) a refl ∙ ap (λ (c : ℕ). c + (11 + length (a .info))) (sym here)
-            in
-            let more-size = size-more encodeAnchor (σ .apex ∷ x) a in
-            let joined : size encodeAnchor (σ .apex ∷ (old ++ (v .done ++ (a ∷ [])))) ≡ size encodeAnchor ((σ .apex ∷ x) ++ (a ∷ [])) =
-            ap (λ (r : List Anchor). size encodeAnchor (σ .apex ∷ r)) (sym (append-assoc old (v .done) (a ∷ [])))
+            let end : p′ ≡ upTo σ (σ .apex ∷ (old ++ (v .done ++ (a ∷ [])))) =
+            q
+            ∙ ap (recordEnd (take len d′)) (v .place)
+            ∙ record-end-is τ d′ len h (σ .apex ∷ x) (m .behind) a refl
+            ∙ sym (next-place σ (σ .apex ∷ x) a)
+            ∙ ap (λ (r : List Anchor). upTo σ (σ .apex ∷ r)) (append-assoc old (v .done) (a ∷ []))
             in
             record {
               done = v .done ++ (a ∷ []);
@@ -239,7 +239,7 @@ module _ (id : List ℕ) (n : ℕ) (d₀ : List ℕ) (len k count : ℕ) where
               holds = record { holds = rw e at h; count = v .holds .count };
               at = omega (arith, v .at, length-append (v .done) (a ∷ []));
               left = omega (arith, v .left, ap length (m .rest));
-              place = omega (arith, end, v .place, more-size, joined, length-encodeAnchor a);
+              place = end;
             }
 
         pub stamping-on : Stamping d′ (j + 1) p′

@@ -21,7 +21,7 @@ use Rattle.store.specs.Store.{Anchor, Store, anchors, keyOf}
 use Rattle.store.specs.Records.{recordsOf}
 use Rattle.store.specs.Parts.{infoIn, isSought, firstFrom}
 use Rattle.store.proofs.Parts.{isAt, first-any}
-use Rattle.edit.specs.Steps.{withOthers}
+use Rattle.store.specs.Steps.{withOthers}
 use Rattle.protocol.specs.Update.{Step, hasKey, without, removed}
 use Rattle.protocol.proofs.Lists.{keep-append}
 use Rattle.protocol.proofs.WellFormed.{GoodAnchors, good-removed}

@@ -3,67 +3,79 @@ use Prim.Native.Nat.{ℕ, zero, suc, _+_, _-_, _*_, _≤_, _<_}
 use native.Mathlib.Omega.{arith}
 use native.Mathlib.Nat.{mul-suc}
 use mathlib.Core.Bool.{Bool, true, false, not, and-eq-true-iff}
-use mathlib.Core.List.{List, [], _∷_, _++_, append-assoc, append-nil}
+use mathlib.Core.List.{List, [], _∷_, _++_, flatMap, append-assoc, append-nil}
 use mathlib.Core.Path.{_≡_, refl, sym, ap, ap₂, _∙_}
 use lib.ListN.{length, take, drop, length-append}
+use lib.Seq.{length-take-le, getD-take}
 use lib.Dec.{leb}
 use borrow.Author.Tests.{leb-true}
 use Rattle.octets.specs.Limits.{maxName, maxCommunities}
 use Rattle.octets.specs.Lists.{allOf, keep}
-use Rattle.octets.specs.Octets.{octet, member}
+use Rattle.octets.specs.Octets.{octet, member, placed}
+use Rattle.octets.proofs.Placed.{length-placed}
 use Rattle.octets.proofs.Lists.{keep-in, keep-out, keep-length}
 use Rattle.store.specs.Image.{encodeName, encodeSection}
 use Rattle.store.specs.Parts.{communityCount, communityOctets, nameEnd, nameAt, namesFrom, communitiesOf}
 use Rattle.store.proofs.Walk.{names-turn}
-use Rattle.edit.specs.Edits.{inserted}
-use Rattle.edit.proofs.Gaps.{all-of, octet-known}
-use Rattle.edit.proofs.Sections.{size, section-inserted}
+use Rattle.store.proofs.Standing.{flatMap-append}
+use Rattle.edit.specs.Edits.{recounted}
+use Rattle.edit.proofs.Replaced.{section-replaced, take-all-placed}
 use Rattle.protocol.proofs.Lists.{keep-append}
 use Rattle.apply.specs.Names.{Section, Joins, Joinable, KeepsName, FewNames}
 
 module _ {d : List ℕ} {len : ℕ} {l : List (List ℕ)} (w : Section d len l) where
   pub section-size : length (encodeSection encodeName l) ≡ len
-  section-size = all-of d len (w .inside) (encodeSection encodeName l) (w .image) .1
+  section-size = ap length (sym (w .image)) ∙ length-take-le len d (w .inside)
 
   pub section-count : octet d 0 ≡ length l
-  section-count = octet-known d len (w .inside) [] _ (length l) 0 (w .image) refl
-
-  whole : take len d ≡ [] ++ (encodeSection encodeName (l ++ []) ++ [])
-  whole =
-      w .image
-      ∙ ap (encodeSection encodeName) (sym (append-nil l))
-      ∙ sym (append-nil (encodeSection encodeName (l ++ [])))
+  section-count = sym (getD-take len d 0 0 (omega (arith, section-size))) ∙ ap (λ (b : List ℕ). octet b 0) (w .image)
 
   module _ (name : List ℕ) (few : length l < maxCommunities) (small : length name ≤ maxName) where
-    pub join-bounds : (0 < len) × (len + (1 + length name) ≤ length d) × (length name < 256) × (octet d 0 < 255)
+    pub join-bounds : (0 < len) × (len + 0 ≤ len) × (len ≤ length d) × (len + (1 + length name) ≤ length d + 0)
     join-bounds =
         let s = section-size in
-        (omega arith, omega (arith, w .bound, w .room), omega arith, omega (arith, section-count))
+        (omega arith, omega arith, w .inside, omega (arith, w .bound, w .room))
 
-    pub section-join : {r : ℕ} {d′ : List ℕ} → r ≡ len + (1 + length name) → d′ ≡ inserted d len len 0 (encodeName name) → length d′ ≡ length d
-        → Section d′ r (l ++ (name ∷ []))
-    section-join {r} {d′} e f k =
+    pub section-join : {items : ℕ} → items ≡ octet d 0 + 1 → {r : ℕ} {d′ : List ℕ} → r ≡ length (recounted (take len d) 0 items len 0 (encodeName name))
+        → d′ ≡ placed d 0 (recounted (take len d) 0 items len 0 (encodeName name)) → Section d′ r (l ++ (name ∷ []))
+    unfolding flatMap
+    section-join {items} o {r} {d′} e f =
         let s = section-size in
-        let place : 0 + 1 + size encodeName l ≡ len = omega arith in
-        let n : len + length (encodeName name) ≡ len + (1 + length name) = omega arith in
-        let i = section-inserted encodeName d len [] [] l [] name len 0 refl place whole (omega (arith, join-bounds .1)) in
-        let m = length-append l (name ∷ []) in
+        let n = length-append l (name ∷ []) in
+        let k : items ≡ length (l ++ (name ∷ [])) = omega (arith, section-count) in
+        let all : encodeSection encodeName l ≡ [] ++ (encodeSection encodeName (l ++ []) ++ []) =
+        ap (encodeSection encodeName) (sym (append-nil l)) ∙ sym (append-nil (encodeSection encodeName (l ++ [])))
+        in
+        let i : recounted (take len d) 0 items len 0 (encodeName name) ≡ encodeSection encodeName (l ++ (name ∷ [])) =
+        ap₂ (λ (b : List ℕ) (c : ℕ). recounted b 0 c len 0 (encodeName name)) (w .image ∙ all) k
+        ∙ ap (recounted ([] ++ (encodeSection encodeName (l ++ []) ++ [])) 0 (length (l ++ (name ∷ []))) len 0) (sym (append-nil (encodeName name)))
+        ∙ section-replaced encodeName [] [] l [] (name ∷ []) [] refl (omega arith)
+        ∙ append-nil (encodeSection encodeName (l ++ (name ∷ [])))
+        in
+        let size : length (encodeSection encodeName (l ++ (name ∷ []))) ≡ len + (1 + length name) =
+        omega (arith, ap length (flatMap-append encodeName l (name ∷ [])), length-append (flatMap encodeName l) (encodeName name ++ []), length-append name [])
+        in
+        let b = join-bounds .3 in
+        let j = ap length i in
+        let room = ap length f ∙ length-placed d 0 (recounted (take len d) 0 items len 0 (encodeName name)) (omega arith) in
         record {
-          image = ap₂ take (e ∙ sym n) f ∙ i ∙ append-nil (encodeSection encodeName (l ++ (name ∷ [])));
-          inside = omega (arith, join-bounds .1);
-          bound = omega (arith, w .bound, m, mul-suc 33 (length l), ap (λ (x : ℕ). 33 * x) m);
+          image = ap₂ take e f ∙ take-all-placed d _ (omega arith) ∙ i;
+          inside = omega arith;
+          bound = omega (arith, w .bound, mul-suc 33 (length l), ap (λ (x : ℕ). 33 * x) n);
           room = omega (arith, w .room);
         }
 
 -- a longer section than the one at hand may be another's: its length says how many names there are
-pub join-done : {d : List ℕ} {len : ℕ} {name : List ℕ} (w : Joinable d len name) {r : ℕ} {d′ : List ℕ} → r ≡ len + (1 + length name)
-    → d′ ≡ inserted d len len 0 (encodeName name) → length d′ ≡ length d → Joins d len name r d′
-join-done {d} {len} {name} w e f k =
+pub join-done : {d : List ℕ} {len : ℕ} {name : List ℕ} (w : Joinable d len name) {items : ℕ} → items ≡ octet d 0 + 1 → {r : ℕ} {d′ : List ℕ}
+    → (r ≡ length (recounted (take len d) 0 items len 0 (encodeName name))) × (d′ ≡ placed d 0 (recounted (take len d) 0 items len 0 (encodeName name)))
+    → length d′ ≡ length d
+    → Joins d len name r d′
+join-done {d} {len} {name} w o f k =
     record {
       same-room = k;
       joins = λ l s.
           let few : length l < maxCommunities = omega (arith, w .few, section-count s, section-count (w .section)) in
-          section-join s name few (w .small) e f k;
+          section-join s name few (w .small) o (f .0) (f .1);
     }
 
 abbrev stays : List (List ℕ) → List ℕ → Bool
@@ -91,8 +103,11 @@ module _ (removals : List (List ℕ)) (name : List ℕ) where
       }
 
 pub joinable-bounds : {d : List ℕ} {len : ℕ} {name : List ℕ} → Joinable d len name
-    → (0 < len) × (len + (1 + length name) ≤ length d) × (length name < 256) × (octet d 0 < 255)
+    → (0 < len) × (len + 0 ≤ len) × (len ≤ length d) × (len + (1 + length name) ≤ length d + 0)
 joinable-bounds {name = name} w = join-bounds (w .section) name (w .few) (w .small)
+
+pub joinable-count : {d : List ℕ} {len : ℕ} {name : List ℕ} → Joinable d len name → (octet d 0 < 255) × (length name < 256)
+joinable-count w = (omega (arith, section-count (w .section), w .few), omega (arith, w .small))
 
 names-count : (n : ℕ) (s : List ℕ) → length (namesFrom n s) ≡ n
 unfolding namesFrom

@@ -14,9 +14,9 @@ use Rattle.anchor.specs.Info.{constraintsValue, rightsOf}
 use Rattle.anchor.proofs.Rights.{value-rights}
 use Rattle.store.specs.Store.{Anchor, Store, anchors}
 use Rattle.store.specs.Image.{encode, wellFormed}
+use Rattle.store.proofs.Standing.{info-at}
 use Rattle.protocol.specs.Acceptance.{rightsAt}
 use Rattle.apply.specs.Scratch.{infoAt, signerRights}
-use Rattle.apply.proofs.Image as image
 
 module _ (image t : List ℕ) where
   pub within-apex : {i : ℕ} → i ≡ 0 → true ≡ within (signerRights image i) (rightsOf t)
@@ -48,7 +48,7 @@ signer-rights σ (suc i) g h =
     let l : length x ≡ i = length-take-le i (σ .others) (omega arith) in
     let f : Anchor → Rights = λ b. rightsOf (b .info) in
     ap (λ (j : ℕ). rightsOf (infoAt (encode σ) (suc j))) (sym l)
-    ∙ ap rightsOf (image.info-at σ g (σ .apex ∷ x) y a (ap (λ (r : List Anchor). σ .apex ∷ r) e))
+    ∙ ap rightsOf (info-at σ g (σ .apex ∷ x) y a (ap (λ (r : List Anchor). σ .apex ∷ r) e))
     ∙ sym (ap (λ (r : List Anchor). getD (map f r) i nothing) e
     ∙ ap (λ (r : List Rights). getD r i nothing) (map-append f x (a ∷ y))
     ∙ getD-at (map f x) (f a) (map f y) nothing i (length-map x f ∙ l))

@@ -2,10 +2,9 @@
 use Prim.Native.Nat.{ℕ, _+_, _≤_, _<_}
 use native.Mathlib.Omega.{arith}
 use mathlib.Core.Bool.{Bool, true, false, not, _&&_, _||_}
-use mathlib.Core.List.{List, [], _∷_, _++_, append-nil}
+use mathlib.Core.List.{List, [], _∷_, _++_, flatMap, append-nil}
 use mathlib.Core.Path.{_≡_, refl, sym, ap, ap₂, _∙_}
-use lib.ListN.{length, take, length-append}
-use lib.Seq.{take-take, take-at}
+use lib.ListN.{length, take}
 use lib.Dec.{ltb, leb, eqb}
 use borrow.Author.Tests.{le-leb, lt-ltb, le-ltb, ne-eqb, not-false}
 use Rattle.octets.specs.declared.Status.{Status}
@@ -15,20 +14,21 @@ use Rattle.octets.specs.First.{givenIf}
 use Rattle.octets.specs.Lists.{allOf, anyOf, distinctBy}
 use Rattle.octets.specs.Octets.{same, member, distinct, placed}
 use Rattle.octets.proofs.Lists.{by-test, neither, keep-length, member-append, allOf-weaken}
-use Rattle.octets.proofs.Placed.{take-behind-placed, length-placed}
 use Rattle.der.specs.declared.Element.{Element}
 use Rattle.der.specs.Element.{field}
 use Rattle.der.specs.Contents.{oidOk}
 use Rattle.syntax.proofs.Each.{every-all}
-use Rattle.store.specs.Store.{Store}
+use Rattle.store.specs.Store.{Store, anchors}
 use Rattle.store.specs.Image.{encodeName, encodeSection, encode, wellFormed}
-use Rattle.store.specs.Parts.{communityPlace, communitiesOf}
+use Rattle.store.specs.Parts.{communityPlace, communityOctets, communitiesOf}
 use Rattle.store.proofs.Formats.{communityOk, rules, from-rules}
 use Rattle.store.proofs.RoundTrip.{decode-encode}
 use Rattle.store.proofs.Parts.{parts}
 use Rattle.store.proofs.Sizes.{encode-length, community-size}
-use Rattle.edit.specs.Places.{endOf}
-use Rattle.edit.proofs.Places.{front, front-length, communities-in}
+use Rattle.store.proofs.Standing.{image-length}
+use Rattle.store.proofs.Standing as standing
+use Rattle.edit.specs.Edits.{replaced}
+use Rattle.edit.proofs.Stores.{communities-replaced}
 use Rattle.message.specs.declared.Request.{Request}
 use Rattle.message.specs.Fields.{updatesIn, removeIn, oidsIn, additionsIn}
 use Rattle.message.proofs.Asked.{asked-additions}
@@ -43,7 +43,7 @@ use Rattle.apply.specs.Scratch.{Holds, Scratch}
 use Rattle.apply.specs.Names.{oidsFrom, Section, FewNames, AddableAll, AddsAll}
 use Rattle.apply.specs.Community.{Puttable, Puts, CommunityReady, CommunityDone}
 use Rattle.apply.proofs.Held as held
-use Rattle.apply.proofs.Sections.{section-size, section-count}
+use Rattle.apply.proofs.Sections.{section-count}
 
 -- the status and the communities behind it, by what the tests said
 
@@ -173,83 +173,62 @@ module _ (present : Bool) {removals additions : List (List ℕ)} {d : List ℕ} 
       few : length after ≤ maxCommunities
       few = omega (arith, a .few, section-count section)
 
-      module _ {place : ℕ} (p : place ≡ communityPlace (take len d)) where
-        module _ (σ : Store) (h : Holds σ d len) where
-          next : Store
-          next = withCommunities (updated present removals additions (σ .communities)) σ
+      pub put-names : n ≤ length names′
+      put-names = section .inside
 
-          as-there : after ≡ updated present removals additions (σ .communities)
-          as-there = ap (updated present removals additions) (communities-are σ d len h)
+      module _ (σ : Store) (h : Holds σ d len) where
+        next : Store
+        next = withCommunities (updated present removals additions (σ .communities)) σ
 
-          few-there : length (updated present removals additions (σ .communities)) ≤ maxCommunities
-          few-there = rw as-there at few
+        as-there : after ≡ updated present removals additions (σ .communities)
+        as-there = ap (updated present removals additions) (communities-are σ d len h)
 
-          good : wellFormed next ≡ true
-          unfolding next
-          good = updated-good present removals additions d len apart-no (w .short) σ (h .good) (w .oids) few-there
+        few-there : length (updated present removals additions (σ .communities)) ≤ maxCommunities
+        few-there = rw as-there at few
 
-          there : place ≡ endOf σ
-          there = p ∙ held.end-is σ d len h
+        good : wellFormed next ≡ true
+        unfolding next
+        good = updated-good present removals additions d len apart-no (w .short) σ (h .good) (w .oids) few-there
 
-          image-of : encode next ≡ front σ ++ take n names′
-          unfolding next
-          image-of =
-              communities-in next
-              ∙ ap (λ (r : List ℕ). front σ ++ r)
-              (append-nil (encodeSection encodeName (updated present removals additions (σ .communities)))
-              ∙ ap (encodeSection encodeName) (sym as-there)
-              ∙ sym (section .image))
+      module _ {place old : ℕ} (p : place ≡ communityPlace (take len d)) (o : old ≡ length (communityOctets (take len d)) + 1) where
+        new-image : (σ : Store) (h : Holds σ d len) → replaced (take len d) place old ([] ++ take n names′) ≡ encode (next σ h)
+        unfolding next
+        new-image σ h =
+            let k : old ≡ 1 + length (communityOctets (take len d)) = omega arith in
+            ap₂ (λ (a b : ℕ). replaced (take len d) a b (take n names′)) p k
+            ∙ ap₂ (λ (s l : List ℕ). replaced s (communityPlace s) (1 + length (communityOctets s)) l) (h .image)
+            (section .image ∙ ap (encodeSection encodeName) (as-there σ h))
+            ∙ communities-replaced σ (h .good) (updated present removals additions (σ .communities))
 
-          size-of : length (encode next) ≡ place + n
-          size-of =
-              omega (
-                arith,
-                ap length image-of,
-                length-append (front σ) (take n names′),
-                front-length σ,
-                there,
-                ap length (section .image),
-                section-size section,
-              )
-
-        pub put-names : n ≤ length names′
-        put-names = section .inside
-
-        pub put-small : place + n ≤ imageRoom
-        put-small =
+        -- the section is the end of the image, and the next one has room
+        pub put-bounds : (place + old ≤ len) × (len ≤ length d) × (len + (0 + length (take n names′)) ≤ length d + old)
+        unfolding next flatMap
+        put-bounds =
             let σ = w .scratch .store in
             let h = w .scratch .holds in
-            omega (arith, size-of σ h, encode-length (next σ h) (good σ h))
+            let all = sym (append-nil (anchors σ)) in
+            let i = image-length σ (anchors σ) [] all in
+            let j = image-length (next σ h) (anchors σ) [] all in
+            let e = p ∙ held.end-is σ d len h in
+            let c = ap (λ (s : List ℕ). length (communityOctets s)) (h .image) ∙ ap length (standing.communities-are σ (h .good)) in
+            let s = ap length (section .image ∙ ap (encodeSection encodeName) (as-there σ h)) in
+            let z = held.size σ d len h in
+            (omega arith, h .inside, omega (arith, encode-length (next σ h) (good σ h), w .scratch .room))
 
-        put-inside : place + n ≤ length d
-        put-inside = omega (arith, put-small, w .scratch .room)
-
-        pub put-fits : place + length (take n names′) ≤ length d
-        put-fits = omega (arith, put-inside, ap length (section .image), section-size section)
-
-        pub put-done : {d′ : List ℕ} → d′ ≡ placed d place (take n names′) → Puts present removals additions d len (record { status = success; len = place + n }) d′
+        pub put-done : {r : ℕ} {d′ : List ℕ} → (r ≡ length (replaced (take len d) place old ([] ++ take n names′)))
+            × (d′ ≡ placed d 0 (replaced (take len d) place old ([] ++ take n names′)))
+            → Puts present removals additions d len (record { status = success; len = r }) d′
         unfolding next
-        put-done {d′} e =
-            let l : length (take n names′) ≡ n = ap length (section .image) ∙ section-size section in
-            let room : length d′ ≡ length d = ap length e ∙ length-placed d place (take n names′) put-fits in
+        put-done {r} {d′} e =
+            let done : (σ : Store) (h : Holds σ d len) → (length d′ ≡ length d) × Holds (next σ h) d′ r =
+            λ σ h.
+            held.written d _ (new-image σ h) (good σ h) (omega (arith, ap length (new-image σ h), encode-length (next σ h) (good σ h), w .scratch .room)) (e .0) (e .1)
+            in
             record {
-              room = room;
+              room = done (w .scratch .store) (w .scratch .holds) .0;
               status = λ σ h. sym (succeeds present removals additions d len apart-no (w .short) (σ .communities) (few-there σ h));
               after = λ σ h.
-                  let at : place ≤ len = omega (arith, there σ h, held.end-before σ d len h) in
-                  let f : take place d ≡ front σ =
-                  sym (take-take place len d at)
-                  ∙ ap (take place) (h .image ∙ communities-in σ)
-                  ∙ take-at (front σ) _ place (front-length σ ∙ sym (there σ h))
-                  in
-                  let i : take (place + n) d′ ≡ encode (next σ h) =
-                  ap₂ take (ap (λ (x : ℕ). place + x) (sym l)) e
-                  ∙ take-behind-placed d place (take n names′) (omega (arith, at, h .inside))
-                  ∙ ap (λ (x : List ℕ). x ++ take n names′) f
-                  ∙ sym (image-of σ h)
-                  in
-                  rw (becomes present removals additions d len apart-no (w .short) (σ .communities) (few-there σ h))
-                  (record { image = i; inside = omega (arith, room, put-inside); good = good σ h });
+                  rw (becomes present removals additions d len apart-no (w .short) (σ .communities) (few-there σ h)) (done σ h .1);
             }
 
 -- the message

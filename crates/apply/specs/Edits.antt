@@ -6,9 +6,9 @@ use mathlib.Core.Path.{_≡_}
 use lib.ListN.{length}
 use Rattle.octets.specs.Limits.{imageRoom, maxNumber}
 use Rattle.store.specs.Store.{Anchor, Store}
-use Rattle.store.specs.Image.{wellFormed}
-use Rattle.edit.specs.Steps.{withOthers, oneMore}
-use Rattle.edit.specs.Places.{placeOf}
+use Rattle.store.specs.Image.{encode, wellFormed}
+use Rattle.store.specs.Parts.{placeOf}
+use Rattle.store.specs.Steps.{withOthers, oneMore}
 use Rattle.protocol.specs.Update.{stamped}
 use Rattle.apply.specs.Scratch.{Holds, HoldsBoth}
 
@@ -43,13 +43,13 @@ pub record Stampable (d : List ℕ) (len p n : ℕ) : Type 0 where
   pub anchor : Anchor
   pub behind : List Anchor
   pub parts : store .others ≡ before ++ (anchor ∷ behind)
-  pub place : p ≡ placeOf store (suc (length before))
+  pub place : p ≡ placeOf (encode store) (suc (length before))
   pub small : n ≤ maxNumber
 
 -- "sets the number of every anchor with that identifier": of one
 pub record Stamps (d : List ℕ) (len p : ℕ) (id : List ℕ) (n : ℕ) (d′ : List ℕ) : Type 0 where
   pub room : length d′ ≡ length d
-  pub stamps : (σ : Store) (x y : List Anchor) (a : Anchor) → Holds σ d len → σ .others ≡ x ++ (a ∷ y) → p ≡ placeOf σ (suc (length x))
+  pub stamps : (σ : Store) (x y : List Anchor) (a : Anchor) → Holds σ d len → σ .others ≡ x ++ (a ∷ y) → p ≡ placeOf (encode σ) (suc (length x))
       → Holds (withOthers (x ++ (stamped (id, n) a ∷ y)) σ) d′ len
 
 -- the anchors that this message appended have become f of them

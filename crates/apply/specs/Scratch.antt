@@ -9,8 +9,8 @@ use Rattle.rights.specs.Rights.{Rights, everything}
 use Rattle.anchor.specs.Info.{rightsOf}
 use Rattle.store.specs.Store.{Anchor, Store}
 use Rattle.store.specs.Image.{encode, wellFormed}
-use Rattle.store.specs.Parts.{firstRecord, recordAt, recordPlace, infoIn}
-use Rattle.edit.specs.Steps.{withOthers}
+pub use Rattle.store.specs.Parts.{infoAt}
+use Rattle.store.specs.Steps.{withOthers}
 
 -- the first len octets of d are the image of a well-formed store
 pub record Holds (σ : Store) (d : List ℕ) (len : ℕ) : Type 0 where
@@ -36,10 +36,6 @@ pub record ScratchBoth (d : List ℕ) (len k : ℕ) : Type 0 where
   pub old : List Anchor
   pub new : List Anchor
   pub holds : HoldsBoth store old new d len k
-
--- the TrustAnchorInfo at a position
-abbrev pub infoAt : List ℕ → ℕ → List ℕ
-infoAt image i = infoIn (recordAt image (recordPlace image (firstRecord image) i))
 
 -- 01, After acceptance: "by the signer's rights at acceptance". They are read from the image that the call was given, at the signer's position.
 unfoldable pub signerRights : List ℕ → ℕ → Rights

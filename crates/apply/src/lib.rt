@@ -1,9 +1,9 @@
 // What an accepted Update or Community Update does to the store, on a scratch image (01, After acceptance).
+use der::Compared;
 use der::Element;
 use message::Entry;
 use message::Request;
 use octets::Status;
-use repeats::Compared;
 use store::Position;
 use store::Sought;
 ghost use mathlib.Core.Path.{_≡_};
@@ -96,9 +96,12 @@ fn append(work: &mut [u8], len: usize, t: &[u8]) -> usize
     requires { ⌜ Growable (now work) len (now t) ⌝ }
     ensures { λ r. ⌜ Appends (now (work .entry)) len (now (t .entry)) r (now (work .exit)) ⌝ }
 {
+    let count = store::anchor_place(&work[..len]);
+    let items = store::anchor_count(&work[..len]) + 1;
     let end = store::community_place(&work[..len]);
-    let count = store::first_record(&work[..len]) - 1;
-    edit::append_anchor(work, len, end, count, t)
+    let mut head = [0u8; 11];
+    octets::put_be(&mut head, 9, 2, t.len() as u64);
+    edit::replace_items(work, len, count, items as u8, end, 0, &head, t)
 }
 
 // Removes the anchor at a position behind the apex. Gives the new length.
@@ -106,10 +109,11 @@ fn cut(work: &mut [u8], len: usize, position: usize) -> usize
     requires { ⌜ Cuttable (now work) len position ⌝ }
     ensures { λ r. ⌜ Cuts (now (work .entry)) len position r (now (work .exit)) ⌝ }
 {
+    let count = store::anchor_place(&work[..len]);
+    let items = store::anchor_count(&work[..len]) - 1;
     let at = store::record_place(&work[..len], position);
     let end = store::record_end(&work[..len], at);
-    let count = store::first_record(&work[..len]) - 1;
-    edit::remove_item(work, len, at, end - at, count)
+    edit::replace_items(work, len, count, items as u8, at, end - at, b"", b"")
 }
 
 // add: 34, 17 for size, 11, 0 if the same octets are stored, 20 if the public key is stored otherwise, 17 at 32 anchors, else appended.
@@ -202,12 +206,11 @@ fn step(
 }
 
 fn code_of(done: Applied) -> u8
-    requires { ⌜ statusOf done .number < 256 ⌝ }
     ensures { λ r. ⌜ r ≡ statusOf done .number ⌝ }
 {
     match done {
         Applied::Done(_, _) => 0,
-        Applied::Failed(status) => status.number as u8,
+        Applied::Failed(status) => status.number,
     }
 }
 
@@ -389,7 +392,9 @@ fn join(names: &mut [u8], len: usize, name: &[u8]) -> usize
     requires { ⌜ Joinable (now names) len (now name) ⌝ }
     ensures { λ r. ⌜ Joins (now (names .entry)) len (now (name .entry)) r (now (names .exit)) ⌝ }
 {
-    edit::append_community(names, len, 0, name)
+    let items = names[0] + 1;
+    let head = [name.len() as u8];
+    edit::replace_items(names, len, 0, items, len, 0, &head, name)
 }
 
 // Appends a community unless it is removed.
@@ -404,7 +409,7 @@ fn keep_name(message: &[u8], removals: Element, names: &mut [u8], len: usize, na
         r
         (now (names .exit)) ⌝ }
 {
-    if repeats::occurs(
+    if der::occurs(
         message,
         removals.start,
         removals.stop,
@@ -468,12 +473,6 @@ fn after_removals(message: &[u8], removals: Element, image: &[u8], names: &mut [
     keep_names(message, removals, image, names)
 }
 
-fn wide(x: u8) -> usize
-    ensures { λ r. ⌜ r ≡ x ⌝ }
-{
-    x as usize
-}
-
 // Appends a community unless it is one of the first `kept`, where there is room for it.
 fn add_name(names: &mut [u8], len: usize, kept: usize, name: &[u8]) -> Grown
     requires { ⌜ Addable (now names) len kept (now name) ⌝ }
@@ -494,7 +493,7 @@ fn add_names(message: &[u8], additions: Element, names: &mut [u8], len: usize) -
     ensures { λ r.
         ⌜ AddsAll (oidsFrom (now (message .entry)) (additions .stop) (additions .start)) (now (names .entry)) len r (now (names .exit)) ⌝ }
 {
-    let kept = wide(names[0]);
+    let kept = octets::wide(names[0]);
     let stop = additions.stop;
     let mut i = additions.start;
     let mut end = len;
@@ -552,10 +551,11 @@ fn put_communities(
         };
     };
     let place = store::community_place(&work[..len]);
-    octets::copy_to(work, place, &names[..n]);
+    let old = store::community_octets(&work[..len]).len() + 1;
+    let end = edit::replace(work, len, place, old, b"", &names[..n]);
     Communities {
         status: Status::SUCCESS,
-        len: place + n,
+        len: end,
     }
 }
 

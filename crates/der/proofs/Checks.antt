@@ -1,7 +1,7 @@
 -- `der`, `sortedIn` and `spans`, one way through their tests at a time.
 use Prim.Native.Nat.{ℕ, zero, suc, _-_, _≤_, _<_}
 use native.Mathlib.Omega.{arith}
-use mathlib.Core.Bool.{Bool, true, false}
+use mathlib.Core.Bool.{true, false}
 use mathlib.Core.List.{List, [], _∷_}
 use mathlib.Core.Path.{_≡_, refl, sym, ap, _∙_}
 use lib.Dec.{eqb}
@@ -18,10 +18,11 @@ use Rattle.der.specs.Fit.{andThen, held, eachFrom, each}
 use Rattle.der.specs.Contents.{contentsOk}
 use Rattle.der.specs.Check.{sortedIn, der, spans}
 use Rattle.der.proofs.Bools.{on-true, on-false}
+use Rattle.der.proofs.Fits.{then-fits, then-breaks, held-fits, held-breaks, judgeBy}
 
 -- the judge of a run: the member m of an element with this tag, with d levels left for it
 abbrev pub memberFit : ℕ → List ℕ → ℕ → Element → Element → Fit
-memberFit d s tag former m = andThen (der d s m) (held (m .at) (sortedIn tag s former m))
+memberFit d s tag = judgeBy (der d s) (sortedIn tag s)
 
 module _ (tag : ℕ) (s : List ℕ) (former e : Element) where
   pub sorted-other : (tag ≡ 49 → ⊥) → sortedIn tag s former e ≡ true
@@ -72,7 +73,7 @@ module _ (s : List ℕ) (e : Element) where
       (held (e .at) (contentsOk (e .tag) (contents s e)))
       k)
 
-  der-leaf : (d : ℕ) → (d ≡ 0 → ⊥) → e .good ≡ true → constructed (e .tag) ≡ false
+  pub der-leaf : (d : ℕ) → (d ≡ 0 → ⊥) → e .good ≡ true → constructed (e .tag) ≡ false
       → der d s e ≡ held (e .at) (contentsOk (e .tag) (contents s e))
   unfolding der opened
   der-leaf zero n g k = absurd (n refl)
@@ -84,10 +85,13 @@ module _ (s : List ℕ) (e : Element) where
       (held (e .at) (contentsOk (e .tag) (contents s e)))
       k
 
-  -- a primitive element: what comes of the test of its contents o
-  pub der-held : (d : ℕ) → (d ≡ 0 → ⊥) → e .good ≡ true → constructed (e .tag) ≡ false → {o : List ℕ} {ok : Bool} {r : Fit}
-      → r ≡ held (e .at) ok → ok ≡ contentsOk (e .tag) o → o ≡ contents s e → r ≡ der d s e
-  der-held d n g k h p q = h ∙ ap (held (e .at)) (p ∙ ap (contentsOk (e .tag)) q) ∙ sym (der-leaf d n g k)
+  -- an element with a bad header breaks the rule of its header as it breaks this one
+  pub der-good : (d : ℕ) {r : Fit} → r ≡ der d s e → r ≡ andThen (held (e .at) (e .good)) (der d s e)
+  der-good d q =
+      q
+      ∙ by-test (e .good)
+      (λ g. sym (then-fits _ (held-fits (e .at) g)))
+      (λ g. der-bad d g ∙ sym (then-breaks _ (held-breaks (e .at) g)))
 
 module _ (d : ℕ) (s : List ℕ) (at stop outer : ℕ) where
   pub spans-none : stop ≤ at → spans d s at stop outer ≡ Breaks outer

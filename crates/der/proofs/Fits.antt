@@ -1,17 +1,19 @@
 -- Laws of `andThen`, `held` and `each`: what a loop over a run of elements does at each turn.
 use Prim.Native.Nat.{ℕ, _≤_, _<_}
-use mathlib.Core.Bool.{Bool, true, false}
+use mathlib.Core.Bool.{Bool, true, false, not}
 use mathlib.Core.List.{List}
-use mathlib.Core.Path.{_≡_, refl, ap, _∙_}
+use mathlib.Core.Path.{_≡_, refl, sym, ap, _∙_}
+use native.Mathlib.Omega.{arith}
 use lib.Dec.{ltb}
-use borrow.Author.Tests.{ltb-true, ltb-false}
+use borrow.Author.Tests.{ltb-true, ltb-false, not-true, not-false}
 use Rattle.octets.proofs.Lists.{by-test}
 use Rattle.der.specs.declared.Element.{Element}
 use Rattle.der.specs.declared.Fit.{Fit}
 use Rattle.der.specs.declared.Fit.the-variants.{Fits, Breaks}
-use Rattle.der.specs.Element.{elementAt, elements}
+use Rattle.der.specs.Element.{elementAt, nextAt, elements}
 use Rattle.der.specs.Fit.{andThen, held, eachFrom, each}
-use Rattle.der.proofs.Elements.{elements-end, elements-broken, elements-turn}
+use Rattle.der.proofs.Elements.{good-within, elements-end, elements-broken, elements-turn}
+use Rattle.der.proofs.Runs.{next-good, run-turn}
 
 pub then-fits : {f : Fit} (g : Fit) → f ≡ Fits → andThen f g ≡ g
 unfolding andThen
@@ -47,17 +49,56 @@ module _ (judge : Element → Element → Fit) (s : List ℕ) (at stop : ℕ) wh
   each-end former h = rw (elements-end s at stop h)
 
   module _ (former : Element) {e : Element} (q : e ≡ elementAt s at stop) where
-    pub each-broken : at < stop → e .good ≡ false → eachFrom judge former (elements s at stop) ≡ Breaks (e .at)
+    pub each-step : at < stop → {n : ℕ} → n ≡ nextAt e stop
+        → eachFrom judge former (elements s at stop)
+        ≡ andThen (andThen (held (e .at) (e .good)) (judge former e)) (eachFrom judge e (elements s n stop))
     unfolding eachFrom
-    each-broken l g =
-        ap (eachFrom judge former) (elements-broken s at stop q l g) ∙ then-breaks _ (then-breaks _ (held-breaks (e .at) g))
+    each-step l m = ap (eachFrom judge former) (run-turn s at stop q l m)
+
+    pub each-broken : at < stop → e .good ≡ false → eachFrom judge former (elements s at stop) ≡ Breaks (e .at)
+    each-broken l g = each-step l refl ∙ then-breaks _ (then-breaks _ (held-breaks (e .at) g))
+
+    each-good : e .good ≡ true
+        → eachFrom judge former (elements s at stop) ≡ andThen (judge former e) (eachFrom judge e (elements s (e .stop) stop))
+    each-good g =
+        let w = good-within s at stop q g in
+        each-step (omega arith) (sym (next-good e stop g)) ∙ ap (λ (f : Fit). andThen f (eachFrom judge e (elements s (e .stop) stop))) (then-fits _ (held-fits (e .at) g))
 
     pub each-breaks : {o : ℕ} → e .good ≡ true → judge former e ≡ Breaks o → eachFrom judge former (elements s at stop) ≡ Breaks o
-    unfolding eachFrom
-    each-breaks g j =
-        ap (eachFrom judge former) (elements-turn s at stop q g) ∙ then-breaks _ (then-fits _ (held-fits (e .at) g) ∙ j)
+    each-breaks g j = each-good g ∙ then-breaks _ j
 
     pub each-turn : e .good ≡ true → judge former e ≡ Fits
         → eachFrom judge former (elements s at stop) ≡ eachFrom judge e (elements s (e .stop) stop)
-    unfolding eachFrom
-    each-turn g j = ap (eachFrom judge former) (elements-turn s at stop q g) ∙ then-fits _ (then-fits _ (held-fits (e .at) g) ∙ j)
+    each-turn g j = each-good g ∙ then-fits _ j
+
+then-assoc : (f g h : Fit) → andThen (andThen f g) h ≡ andThen f (andThen g h)
+unfolding andThen
+then-assoc Fits g h = refl
+then-assoc (Breaks o) g h = refl
+
+-- a loop over a run in which each element is read by f and then tested behind the one before it by p; its laws have the premises of those in Loops
+module _ (f : Element → Fit) (p : Element → Element → Bool) where
+  abbrev pub judgeBy : Element → Element → Fit
+  judgeBy former e = andThen (f e) (held (e .at) (p former e))
+
+  module _ (s : List ℕ) (at stop : ℕ) (former : Element) {x : Fit} (rest : eachFrom judgeBy former (elements s at stop) ≡ x) where
+    pub each-fits : stop ≤ at → Fits ≡ x
+    each-fits h = sym (each-end judgeBy s at stop former h) ∙ rest
+
+    module _ (l : at < stop) {e : Element} (q : e ≡ elementAt s at stop) {r : Fit} (h : r ≡ andThen (held (e .at) (e .good)) (f e)) where
+      one : {n : ℕ} → n ≡ nextAt e stop → x ≡ andThen (andThen r (held (e .at) (p former e))) (eachFrom judgeBy e (elements s n stop))
+      one {n} m =
+          sym rest
+          ∙ each-step judgeBy s at stop former q l m
+          ∙ ap (λ (y : Fit). andThen y (eachFrom judgeBy e (elements s n stop)))
+          (sym (then-assoc (held (e .at) (e .good)) (f e) (held (e .at) (p former e))) ∙ ap (λ (y : Fit). andThen y (held (e .at) (p former e))) (sym h))
+
+      pub each-fails : {o : ℕ} → r ≡ Breaks o → Breaks o ≡ x
+      each-fails k = sym (one refl ∙ then-breaks _ (then-breaks _ k))
+
+      module _ (k : r ≡ Fits) {b : Bool} (w : b ≡ p former e) where
+        pub each-misplaced : not b ≡ true → Breaks (e .at) ≡ x
+        each-misplaced t = sym (one refl ∙ then-breaks _ (then-fits _ k ∙ held-breaks (e .at) (sym w ∙ not-true b t)))
+
+        pub each-later : not b ≡ false → {n : ℕ} → n ≡ nextAt e stop → eachFrom judgeBy e (elements s n stop) ≡ x
+        each-later t m = sym (one m ∙ then-fits _ (then-fits _ k ∙ held-fits (e .at) (sym w ∙ not-false b t)))

@@ -2,6 +2,8 @@ pub mod Bools
 pub mod Header
 pub mod Elements
 pub mod Runs
+pub mod Loops
+pub mod Keys
 pub mod Fits
 pub mod Leaves
 pub mod Checks

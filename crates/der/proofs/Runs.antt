@@ -1,5 +1,5 @@
 -- A run of elements as a loop reads it, one element a turn.
-use Prim.Native.Nat.{ℕ, _+_, _≤_, _<_}
+use Prim.Native.Nat.{ℕ, _+_, _-_, _≤_, _<_}
 use native.Mathlib.Omega.{arith}
 use mathlib.Core.Bool.{true, false, true≢false}
 use mathlib.Core.List.{List, [], _∷_, _++_, append-assoc}
@@ -40,6 +40,10 @@ module _ (s : List ℕ) (at stop : ℕ) {e : Element} (q : e ≡ elementAt s at 
       (λ g.
       let b : n ≡ stop = m ∙ next-broken e stop g in
       (omega arith, omega arith))
+
+-- what is left to be read falls with each turn
+pub run-less : (s : List ℕ) (at stop n : ℕ) {e : Element} → e ≡ elementAt s at stop → at < stop → n ≡ nextAt e stop → stop - n < stop - at
+run-less s at stop n q l m = omega (arith, run-on s at stop q l m)
 
 -- an element stands alike in each window that it does not pass
 pub element-window : (s : List ℕ) (at stop w : ℕ) {e : Element} → e ≡ elementAt s at stop → e .good ≡ true → e .stop ≤ w → w ≤ length s → elementAt s at w ≡ e

@@ -2,5 +2,6 @@ pub mod Element
 pub mod Fit
 pub mod Contents
 pub mod Check
+pub mod Keys
 pub mod Write
 pub mod Oid

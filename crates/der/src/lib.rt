@@ -4,7 +4,7 @@ ghost use Prim.Native.Nat.{_+_, _≤_, _<_};
 ghost use mathlib.Core.Bool.{true, _&&_};
 ghost use lib.ListN.{length};
 ghost use lib.Dec.{eqb};
-ghost use Rattle.octets.specs.Octets.{octet, placed};
+ghost use Rattle.octets.specs.Octets.{octet, member, placed};
 ghost use Rattle.der.specs.Element.{
   absent,
   lengthAt,
@@ -25,6 +25,7 @@ ghost use Rattle.der.specs.Element.{
 ghost use Rattle.der.specs.Fit.{andThen, held, each};
 ghost use Rattle.der.specs.Contents.{integerOk, booleanOk, arcBegins, oidOk, contentsOk};
 ghost use Rattle.der.specs.Check.{sortedIn, der, spans as spansOf};
+ghost use Rattle.der.specs.Keys.{typeOf, keyOf, keysFrom, firstWith};
 ghost use Rattle.der.specs.Write.{lengthOctets, header};
 
 // An element: its identifier octet, where it begins, and its contents, from start up to stop.
@@ -49,6 +50,19 @@ pub enum Fit {
     Breaks(usize),
 }
 
+// What the members of a run are compared by: the type that stands in them, their contents, or all their octets.
+pub enum Compared {
+    Types,
+    Contents,
+    Octets,
+}
+
+// An element that was looked for. (One whose header breaks a rule is an element of a run too, so `good` could not say that there is none.)
+pub enum Found {
+    At(Element),
+    Nowhere,
+}
+
 // No element: what stands where a header breaks a rule.
 pub fn no_element(at: usize) -> Element
     ensures { λ r. ⌜ r ≡ absent at ⌝ }
@@ -62,12 +76,6 @@ pub fn no_element(at: usize) -> Element
     }
 }
 
-fn wide(x: u8) -> usize
-    ensures { λ r. ⌜ r ≡ x ⌝ }
-{
-    x as usize
-}
-
 // The length octets of the element at a place, all of them in one loop: the first is the length or says how many stand behind it, each of those is a digit
 // of the length. The loop stops before a length that passes the window's end could wrap. (With a flag for the first turn the compiler can tell it from the others.)
 fn length_at(s: &[u8], at: usize, stop: usize) -> Length
@@ -79,7 +87,7 @@ fn length_at(s: &[u8], at: usize, stop: usize) -> Length
     let mut i = at + 1;
     let mut first = true;
     while i < start {
-        let x = wide(s[i]);
+        let x = octets::wide(s[i]);
         if first {
             if x < 128 {
                 n = x;
@@ -265,14 +273,14 @@ pub fn is_constructed(tag: u8) -> bool
     tag / 32 % 2 == 1
 }
 
-// A test, whose break is charged to the element at a place.
-fn hold(at: usize, ok: bool) -> Fit
-    ensures { λ r. ⌜ r ≡ held at ok ⌝ }
+// What the contents of a primitive element must be; a break is charged to the element.
+fn check_contents(s: &[u8], e: Element) -> Fit
+    ensures { λ r. ⌜ r ≡ held (e .at) (contentsOk (e .tag) (contentsOf (now (s .entry)) e)) ⌝ }
 {
-    if ok {
+    if contents_ok(e.tag, contents(s, e)) {
         return Fit::Fits;
     }
-    Fit::Breaks(at)
+    Fit::Breaks(e.at)
 }
 
 // In an element with this tag, a SET or not: the member e stands in order behind the one before it.
@@ -295,24 +303,10 @@ pub fn check_element(s: &[u8], e: Element, depth: usize) -> Fit
     if depth == 0 {
         return Fit::Breaks(e.at);
     }
-    if !is_constructed(e.tag) {
-        return hold(e.at, contents_ok(e.tag, contents(s, e)));
-    }
-    check_run(s, e.tag, e.start, e.stop, depth - 1)
-}
-
-// As check_element, of a good element in a run. (check_element does not call it, so that a run and its members become one recursive function of the compiler's.)
-fn check_member(s: &[u8], e: Element, depth: usize) -> Fit
-    requires { ⌜ e .good ≡ true ⌝ }
-    ensures { λ r. ⌜ r ≡ der depth (now (s .entry)) e ⌝ }
-{
-    if depth == 0 {
-        return Fit::Breaks(e.at);
-    }
     if is_constructed(e.tag) {
         return check_run(s, e.tag, e.start, e.stop, depth - 1);
     }
-    hold(e.at, contents_ok(e.tag, contents(s, e)))
+    check_contents(s, e)
 }
 
 // The run of elements from start up to stop, inside an element with this tag, fills it; each has this depth left for it, and in a SET stands in order. Before
@@ -327,16 +321,13 @@ pub fn check_run(s: &[u8], tag: u8, start: usize, stop: usize, depth: usize) -> 
     let mut former = no_element(at);
     while at < stop {
         let e = element_at(s, at, stop);
-        if !e.good {
-            return Fit::Breaks(e.at);
-        }
-        if let Fit::Breaks(o) = check_member(s, e, depth) {
+        if let Fit::Breaks(o) = check_element(s, e, depth) {
             return Fit::Breaks(o);
         }
         if !is_sorted(s, tag, former, e) {
             return Fit::Breaks(e.at);
         }
-        at = e.stop;
+        at = next(e, stop);
         former = e;
     }
     Fit::Fits
@@ -367,16 +358,10 @@ pub fn with_tag(s: &[u8], at: usize, stop: usize, tag: u8) -> Element
     let mut i = at;
     while i < stop {
         let e = element_at(s, i, stop);
-        if !e.good {
-            if tag == 0 {
-                return e;
-            }
-            return no_element(0);
-        }
         if e.tag == tag {
             return e;
         }
-        i = e.stop;
+        i = next(e, stop);
     }
     no_element(0)
 }
@@ -392,6 +377,49 @@ pub fn field_behind(s: &[u8], e: Element, f: Element, tag: u8) -> Element
     ensures { λ r. ⌜ r ≡ fieldBehind tag (now (s .entry)) e f ⌝ }
 {
     with_tag(s, f.stop, e.stop, tag)
+}
+
+// The type that stands in an element: the contents of its OID.
+pub fn type_of(s: &[u8], e: Element) -> &[u8]
+    ensures { λ r. ⌜ now r ≡ typeOf (now (s .entry)) e ⌝ }
+{
+    contents(s, field(s, e, 0x06))
+}
+
+// What a member of a run is compared by.
+pub fn key(s: &[u8], e: Element, by: Compared) -> &[u8]
+    ensures { λ r. ⌜ now r ≡ keyOf by (now (s .entry)) e ⌝ }
+{
+    match by {
+        Compared::Types => type_of(s, e),
+        Compared::Contents => contents(s, e),
+        Compared::Octets => whole(s, e),
+    }
+}
+
+// The first member of the run from at up to stop that has the key k.
+pub fn first_with(s: &[u8], at: usize, stop: usize, by: Compared, k: &[u8]) -> Found
+    ensures { λ r. ⌜ r ≡ firstWith by (now (s .entry)) (now (k .entry)) (elements (now (s .entry)) at stop) ⌝ }
+{
+    let mut i = at;
+    while i < stop {
+        let e = element_at(s, i, stop);
+        if octets::equal(k, key(s, e, by)) {
+            return Found::At(e);
+        }
+        i = next(e, stop);
+    }
+    Found::Nowhere
+}
+
+// Whether one has it.
+pub fn occurs(s: &[u8], at: usize, stop: usize, by: Compared, k: &[u8]) -> bool
+    ensures { λ r. ⌜ r ≡ member (now (k .entry)) (keysFrom by (now (s .entry)) at stop) ⌝ }
+{
+    if let Found::At(_) = first_with(s, at, stop, by, k) {
+        return true;
+    }
+    false
 }
 
 // How many octets the header of n octets of contents takes.

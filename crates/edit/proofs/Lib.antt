@@ -1,6 +1,2 @@
-pub mod Writes
-pub mod Gaps
-pub mod Sections
-pub mod Places
-pub mod Anchors
-pub mod Communities
+pub mod Replaced
+pub mod Stores

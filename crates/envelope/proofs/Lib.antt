@@ -1,4 +1,3 @@
 pub mod Chain
-pub mod Runs
 pub mod Attributes
 pub mod Answers

@@ -1,21 +1,18 @@
 -- 01, Answers, status 7: the signed attributes.
-use Prim.Native.Nat.{ℕ, _≤_, _<_}
+use Prim.Native.Nat.{ℕ}
 use mathlib.Core.Bool.{Bool, true, false, not, _&&_}
-use mathlib.Core.List.{List, map}
-use mathlib.Core.Path.{_≡_}
-use Rattle.octets.specs.Lists.{anyOf}
-use Rattle.octets.specs.Octets.{same, member, distinct, ordered}
+use mathlib.Core.List.{List}
+use Rattle.octets.specs.Octets.{same, member, ordered}
 use Rattle.der.specs.declared.Element.{Element}
+use Rattle.der.specs.declared.Compared.the-variants.{Types}
 use Rattle.der.specs.declared.Fit.{Fit}
 use Rattle.der.specs.declared.Fit.the-variants.{Breaks}
-use Rattle.der.specs.Element.{elements, whole, inside}
+use Rattle.der.specs.Element.{whole, inside}
+use Rattle.der.specs.Keys.{typeOf, keysFrom, keysIn}
 use Rattle.der.specs.Fit.{andThen, held, each}
-use Rattle.repeats.specs.declared.Compared.the-variants.{Types}
-use Rattle.repeats.specs.Keys.{keysFrom}
 use Rattle.syntax.specs.Grammar.{Syntax, free, obeys, tagged, equals, fit}
 use Rattle.syntax.specs.Asn.{Attribute}
 use Rattle.syntax.specs.Types.{id-contentType, id-messageDigest}
-use Rattle.rights.specs.Attributes.{attrType}
 
 -- what may stand as the value of an attribute: content-type is eContentType ("content-type unequal"), message-digest is an OCTET STRING (RFC 5652, 11.2),
 -- any other value is free
@@ -28,20 +25,15 @@ valueSyntax eContentType type =
 
 -- "malformed, not one value each": the Attribute by itself
 unfoldable pub attributeFit : List ℕ → List ℕ → Element → Fit
-attributeFit eContentType s e = fit (tagged 0x30 (Attribute (valueSyntax eContentType (attrType s e)))) s (e .at) (e .stop) (e .at)
+attributeFit eContentType s e = fit (tagged 0x30 (Attribute (valueSyntax eContentType (typeOf s e)))) s (e .at) (e .stop) (e .at)
 
 -- "a type repeated": it is the type of an attribute before e in signedAttrs
 unfoldable pub repeated : List ℕ → Element → Element → Bool
-repeated s attributes e = member (attrType s e) (map (attrType s) (elements s (attributes .start) (e .at)))
-
--- up to a place no two types are equal
-pub record NewUntil (s : List ℕ) (attributes : Element) (until : ℕ) : Type 0 where
-  pub apart : distinct (keysFrom Types s (attributes .start) until) ≡ true
-  pub within : attributes .start < until → until ≤ attributes .stop
+repeated s attributes e = member (typeOf s e) (keysFrom Types s (attributes .start) (e .at))
 
 -- "content-type or message-digest missing"
 unfoldable pub hasType : List ℕ → Element → List ℕ → Bool
-hasType s attributes type = anyOf (λ e. same type (attrType s e)) (inside s attributes)
+hasType s attributes type = member type (keysIn Types s attributes)
 
 -- Status 7. Each attribute in turn: by itself, in order behind the one before it ("not sorted"), its type new; then both required ones are there.
 -- "absent" is charged to the SignerInfo, a missing type to signedAttrs.

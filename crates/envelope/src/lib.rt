@@ -3,28 +3,28 @@ ghost use mathlib.Core.Path.{_≡_};
 ghost use mathlib.Core.Bool.{false, not, _&&_, _||_};
 ghost use mathlib.Core.List.{List};
 ghost use Prim.Native.Nat.{ℕ, _≤_};
-ghost use Rattle.octets.specs.Lists.{anyOf};
 ghost use Rattle.octets.specs.Octets.{same, ordered};
 ghost use Rattle.der.specs.Element.{absent, whole as wholeOf, contents as contentsOf, inside, field, elements};
 ghost use Rattle.der.specs.Fit.{andThen, held, each};
+ghost use Rattle.repeats.specs.Keys.{isAt};
 ghost use Rattle.syntax.specs.Grammar.{tagged, fit};
 ghost use Rattle.syntax.specs.Asn.{Attribute};
 ghost use Rattle.syntax.specs.Forms.{formSyntax, attributeSyntax};
-ghost use Rattle.rights.specs.Attributes.{attrType};
+ghost use Rattle.syntax.specs.Types.{id-contentType, id-messageDigest};
 ghost use Rattle.envelope.specs.Parts.{contentType};
 ghost use Rattle.envelope.specs.Attributes.{
   valueSyntax,
   attributeFit,
   repeated,
-  NewUntil,
-  attributesFit,
+  hasType, attributesFit,
 };
 ghost use Rattle.envelope.specs.Given.{givenFirst, orAt, orIf, orRef, kindOf};
 ghost use Rattle.envelope.specs.Rows.{isTamp, row-1, row-29, row-2, envelope};
+use der::Compared;
 use der::Element;
 use der::Fit;
 use octets::Status;
-use repeats::Compared;
+use repeats::Repeat;
 use syntax::AttributeForm;
 use syntax::Form;
 use syntax::ID_CONTENT_TYPE;
@@ -59,21 +59,6 @@ pub enum Envelope {
     Refused(Refusal),
 }
 
-// Attributes in no more octets are few.
-const FEW_OCTETS: usize = 512;
-
-fn no_element() -> Element
-    ensures { λ r. ⌜ r ≡ absent 0 ⌝ }
-{
-    Element {
-        good: false,
-        tag: 0,
-        at: 0,
-        start: 0,
-        stop: 0,
-    }
-}
-
 // 01, Answers: "The first that applies is given": what the rows so far give.
 pub enum Given {
     Nothing,
@@ -91,7 +76,7 @@ impl Given {
         let Fit::Breaks(offset) = rule else {
             return self;
         };
-        let none = no_element();
+        let none = der::no_element(0);
         Given::First(Refusal {
             status: status,
             offset: offset,
@@ -104,7 +89,7 @@ impl Given {
     pub fn or_if(self, applies: bool, status: Status, msgtype: Element) -> Given
         ensures { λ r. ⌜ r ≡ orIf self applies status msgtype ⌝ }
     {
-        self.or_ref(applies, status, msgtype, no_element())
+        self.or_ref(applies, status, msgtype, der::no_element(0))
     }
 
     // .. with msgRef, from 127 on.
@@ -161,13 +146,6 @@ fn info_fit(s: &[u8]) -> Fit
     syntax::fits(Form::ContentInfoSignedData, s, 0, s.len(), 0)
 }
 
-// attrType of an Attribute.
-pub fn attr_type(s: &[u8], e: Element) -> &[u8]
-    ensures { λ r. ⌜ now r ≡ attrType (now (s .entry)) e ⌝ }
-{
-    der::contents(s, der::field(s, e, 0x06))
-}
-
 // What is asked of an Attribute with the type o.
 fn form_of(o: &[u8]) -> AttributeForm
     ensures { λ r. ⌜ ((type : List ℕ) → attributeSyntax r type ≡ tagged 0x30 (Attribute (valueSyntax type (now (o .entry))))) ⌝ }
@@ -185,55 +163,36 @@ fn form_of(o: &[u8]) -> AttributeForm
 fn attribute_fit(about: &[u8], s: &[u8], e: Element) -> Fit
     ensures { λ r. ⌜ r ≡ attributeFit (now (about .entry)) (now (s .entry)) e ⌝ }
 {
-    let form = form_of(attr_type(s, e));
+    let form = form_of(der::type_of(s, e));
     syntax::attribute_fits(form, about, s, e.at, e.stop, e.at)
 }
 
-// Whether one of the attributes from at up to stop has the type o.
-fn has_type(o: &[u8], s: &[u8], at: usize, stop: usize) -> bool
-    ensures { λ r. ⌜ r ≡ anyOf (λ e. same (now (o .entry)) (attrType (now (s .entry)) e)) (elements (now (s .entry)) at stop) ⌝ }
+// Whether one of the attributes has the type o.
+fn has_type(s: &[u8], attributes: Element, o: &[u8]) -> bool
+    ensures { λ r. ⌜ r ≡ hasType (now (s .entry)) attributes (now (o .entry)) ⌝ }
 {
-    let mut i = at;
-    while i < stop {
-        let e = der::element_at(s, i, stop);
-        if octets::equal(o, attr_type(s, e)) {
-            return true;
-        }
-        if !e.good {
-            return false;
-        }
-        i = e.stop;
-    }
-    false
+    der::occurs(s, attributes.start, attributes.stop, Compared::Types, o)
 }
 
-// "a type repeated": the type of the attribute e is new. Up to the place `until` no two types are equal.
-fn is_new(s: &[u8], attributes: Element, e: Element, until: usize) -> bool
-    requires { ⌜ (e .stop ≤ until → repeated (now s) attributes e ≡ false) ⌝ }
-    ensures { λ r. ⌜ r ≡ not (repeated (now (s .entry)) attributes e) ⌝ }
+// "content-type or message-digest missing".
+fn has_both(s: &[u8], attributes: Element) -> bool
+    ensures { λ r. ⌜ r ≡ hasType (now (s .entry)) attributes id-contentType && hasType (now (s .entry)) attributes id-messageDigest ⌝ }
 {
-    if e.stop <= until {
-        return true;
-    }
-    !has_type(attr_type(s, e), s, attributes.start, e.at)
+    has_type(s, attributes, &ID_CONTENT_TYPE) & has_type(s, attributes, &ID_MESSAGE_DIGEST)
 }
 
-// "not sorted, a type repeated": the attribute e stands in order behind the one before it, and its type is new.
-fn is_in_place(s: &[u8], attributes: Element, former: Element, e: Element, until: usize) -> bool
-    requires { ⌜ (e .stop ≤ until → repeated (now s) attributes e ≡ false) ⌝ }
-    ensures { λ r.
-        ⌜ r ≡ ordered (wholeOf (now (s .entry)) former) (wholeOf (now (s .entry)) e)
-        && not (repeated (now (s .entry)) attributes e) ⌝ }
+// "not sorted, a type repeated": the attribute e stands in order behind the one before it, and is not the first whose type stood before.
+fn is_in_place(s: &[u8], former: Element, e: Element, first: Repeat) -> bool
+    ensures { λ r. ⌜ r ≡ ordered (wholeOf (now (s .entry)) former) (wholeOf (now (s .entry)) e) && not (isAt first (e .at)) ⌝ }
 {
     if !octets::in_order(der::whole(s, former), der::whole(s, e)) {
         return false;
     }
-    is_new(s, attributes, e, until)
+    !repeats::is_at(first, e.at)
 }
 
-// Each of the signed attributes in turn. Up to the place `until` no two types are equal.
-fn each_attribute(about: &[u8], s: &[u8], attributes: Element, until: usize) -> Fit
-    requires { ⌜ NewUntil (now s) attributes until ⌝ }
+// Each of the signed attributes in turn.
+fn each_attribute(about: &[u8], s: &[u8], attributes: Element) -> Fit
     ensures { λ r.
         ⌜ r ≡ each
         (λ former e. andThen
@@ -242,38 +201,25 @@ fn each_attribute(about: &[u8], s: &[u8], attributes: Element, until: usize) -> 
         (ordered (wholeOf (now (s .entry)) former) (wholeOf (now (s .entry)) e) && not (repeated (now (s .entry)) attributes e))))
         (inside (now (s .entry)) attributes) ⌝ }
 {
-    let stop = attributes.stop;
+    let first = repeats::first_repeat(s, der::no_element(0), attributes, Compared::Types);
     let mut at = attributes.start;
-    let mut e = der::element_at(s, at, stop);
+    let mut e = der::element_at(s, at, attributes.stop);
     let mut former = e;
-    while at < stop {
+    while at < attributes.stop {
         if !e.good {
             return Fit::Breaks(e.at);
         }
         if let Fit::Breaks(o) = attribute_fit(about, s, e) {
             return Fit::Breaks(o);
         }
-        if !is_in_place(s, attributes, former, e, until) {
+        if !is_in_place(s, former, e, first) {
             return Fit::Breaks(e.at);
         }
         at = e.stop;
         former = e;
-        e = der::element_at(s, at, stop);
+        e = der::element_at(s, at, attributes.stop);
     }
     Fit::Fits
-}
-
-// A place up to which no two types of the attributes are equal. It is sought where there are many: few are compared each with those before it.
-fn new_until(s: &[u8], attributes: Element) -> usize
-    ensures { λ r. ⌜ NewUntil (now (s .entry)) attributes r ⌝ }
-{
-    if attributes.stop <= attributes.start {
-        return attributes.start;
-    }
-    if attributes.stop - attributes.start <= FEW_OCTETS {
-        return attributes.start;
-    }
-    repeats::distinct_until(s, attributes, Compared::Types)
 }
 
 // 7: the signed attributes, where about is eContentType.
@@ -283,17 +229,13 @@ fn attributes_fit(about: &[u8], s: &[u8], signer: Element, attributes: Element) 
     if !attributes.good {
         return Fit::Breaks(signer.at);
     }
-    let until = new_until(s, attributes);
-    if let Fit::Breaks(o) = each_attribute(about, s, attributes, until) {
+    if let Fit::Breaks(o) = each_attribute(about, s, attributes) {
         return Fit::Breaks(o);
     }
-    if !has_type(&ID_CONTENT_TYPE, s, attributes.start, attributes.stop) {
-        return Fit::Breaks(attributes.at);
+    if has_both(s, attributes) {
+        return Fit::Fits;
     }
-    if !has_type(&ID_MESSAGE_DIGEST, s, attributes.start, attributes.stop) {
-        return Fit::Breaks(attributes.at);
-    }
-    Fit::Fits
+    Fit::Breaks(attributes.at)
 }
 
 // 7: the signed attributes of the SignerInfo.
@@ -387,7 +329,7 @@ fn opened(given: Given, signed: Signed) -> Envelope
 pub fn open(s: &[u8]) -> Envelope
     ensures { λ r. ⌜ r ≡ envelope (now (s .entry)) ⌝ }
 {
-    let none = no_element();
+    let none = der::no_element(0);
     let info = der::element_at(s, 0, s.len());
     let content = der::field(s, info, 0xA0);
     let signed = der::field(s, content, 0x30);
@@ -422,15 +364,9 @@ pub fn open(s: &[u8]) -> Envelope
     )
 }
 
-// eContent, and the signer's key identifier, as parts of the message.
+// eContent, as a part of the message.
 pub fn e_content(s: &[u8], w: Signed) -> &[u8]
     ensures { λ r. ⌜ now r ≡ contentsOf (now (s .entry)) (w .content) ⌝ }
 {
     der::contents(s, w.content)
-}
-
-pub fn key_identifier(s: &[u8], w: Signed) -> &[u8]
-    ensures { λ r. ⌜ now r ≡ contentsOf (now (s .entry)) (w .signer) ⌝ }
-{
-    der::contents(s, w.signer)
 }

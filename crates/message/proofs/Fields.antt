@@ -1,15 +1,13 @@
--- The fields of a message (specs/Fields), one way through their tests at a time; and how many elements a run has.
-use Prim.Native.Nat.{ℕ, suc, _≤_, _<_}
+-- The fields of a message (specs/Fields), one way through their tests at a time.
+use Prim.Native.Nat.{ℕ}
 use mathlib.Core.Bool.{true, false}
-use mathlib.Core.List.{List, [], _∷_, map}
-use mathlib.Core.Path.{_≡_, refl, sym, ap, _∙_}
-use lib.ListN.{length}
+use mathlib.Core.List.{List}
+use mathlib.Core.Path.{_≡_, sym, ap, _∙_}
 use lib.Dec.{eqb}
 use borrow.Author.Tests.{eq-eqb, ne-eqb}
 use Rattle.der.specs.declared.Element.{Element}
-use Rattle.der.specs.Element.{elementAt, elements, field}
+use Rattle.der.specs.Element.{elementAt, field}
 use Rattle.der.proofs.Bools.{on-true, on-false}
-use Rattle.der.proofs.Elements.{elements-end, elements-broken, elements-turn}
 use Rattle.message.specs.declared.Entry.{Entry}
 use Rattle.message.specs.declared.Entry.the-variants as entry
 use Rattle.message.specs.Fields.{entryOf}
@@ -53,20 +51,3 @@ module _ (s : List ℕ) (e : Element) where
       sym
       (on-false (eqb (e .tag) 0xA1) (addedOf (elementAt s (e .start) (e .stop))) otherOf (ne-eqb _ _ h)
       ∙ on-false (eqb (e .tag) 0xA2) (entry.Remove e) entry.Change (ne-eqb _ _ k))
-
--- how many elements stand from a place on
-module _ (s : List ℕ) (at stop : ℕ) where
-  pub count-end : stop ≤ at → length (elements s at stop) ≡ 0
-  count-end h = ap length (elements-end s at stop h)
-
-  module _ {e : Element} (q : e ≡ elementAt s at stop) where
-    pub count-broken : at < stop → e .good ≡ false → length (elements s at stop) ≡ 1
-    count-broken l g = ap length (elements-broken s at stop q l g)
-
-    pub count-turn : e .good ≡ true → length (elements s at stop) ≡ suc (length (elements s (e .stop) stop))
-    count-turn g = ap length (elements-turn s at stop q g)
-
--- as many entries as elements
-length-map : {A B : Type 0} (f : A → B) (l : List A) → length (map f l) ≡ length l
-length-map f [] = refl
-length-map f (x ∷ l) = ap suc (length-map f l)

@@ -7,3 +7,4 @@ pub mod Fields
 pub mod Rows
 pub mod Aims
 pub mod Numbers
+pub mod Loops

@@ -205,10 +205,7 @@ pub fn count(s: &[u8], e: Element) -> usize
     while at < stop {
         let m = der::element_at(s, at, stop);
         n += 1;
-        if !m.good {
-            return n;
-        }
-        at = m.stop;
+        at = der::next(m, stop);
     }
     n
 }
@@ -255,10 +252,7 @@ fn any_entry(serial: &[u8], s: &[u8], entries: Element) -> bool
         if entry_names(serial, s, e) {
             return true;
         }
-        if !e.good {
-            return false;
-        }
-        at = e.stop;
+        at = der::next(e, stop);
     }
     false
 }
@@ -285,18 +279,9 @@ fn any_module(hwtype: &[u8], serial: &[u8], s: &[u8], t: Element) -> bool
         if module_names(hwtype, serial, s, m) {
             return true;
         }
-        if !m.good {
-            return false;
-        }
-        at = m.stop;
+        at = der::next(m, stop);
     }
     false
-}
-
-fn wide(x: u8) -> usize
-    ensures { λ r. ⌜ r ≡ x ⌝ }
-{
-    x as usize
 }
 
 // Where n octets from place at on end, in a string of so many octets.
@@ -317,7 +302,7 @@ pub fn is_among(o: &[u8], names: &[u8]) -> bool
     let mut i = 0;
     while i < names.len() {
         let at = i + 1;
-        let end = end_of(at, wide(names[i]), names.len());
+        let end = end_of(at, octets::wide(names[i]), names.len());
         if octets::equal(o, octets::part(names, at, end)) {
             return true;
         }
@@ -338,10 +323,7 @@ fn any_community(communities: &[u8], s: &[u8], t: Element) -> bool
         if is_among(der::contents(s, c), communities) {
             return true;
         }
-        if !c.good {
-            return false;
-        }
-        at = c.stop;
+        at = der::next(c, stop);
     }
     false
 }

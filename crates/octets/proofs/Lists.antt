@@ -2,7 +2,7 @@
 use Prim.Native.Nat.{ℕ, _≤_, _<_}
 use native.Mathlib.Omega.{arith}
 use mathlib.Core.Bool.{Bool, true, false, not, _&&_, _||_, and-eq-true-iff, true≢false, false≢true}
-use mathlib.Core.List.{List, [], _∷_, _++_}
+use mathlib.Core.List.{List, [], _∷_, _++_, map}
 use mathlib.Core.Path.{_≡_, refl, sym, _∙_, ap, ap₂}
 use lib.ListN.{length}
 use lib.Dec.{eqb}
@@ -83,6 +83,11 @@ module _ {A : Type 0} where
   keep-length p (x ∷ l) =
       let h = keep-length p l in
       by-test (p x) (λ e. omega (arith, ap length (keep-in p x l e))) (λ e. omega (arith, ap length (keep-out p x l e)))
+
+pub anyOf-map : {A B : Type 0} (p : B → Bool) (f : A → B) (l : List A) → anyOf p (map f l) ≡ anyOf (λ x. p (f x)) l
+unfolding anyOf
+anyOf-map p f [] = refl
+anyOf-map p f (x ∷ l) = ap (λ (b : Bool). p (f x) || b) (anyOf-map p f l)
 
 -- the members of a list of octet strings
 

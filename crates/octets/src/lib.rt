@@ -46,7 +46,7 @@ pub const MAX_MESSAGE: usize = 8192;
 
 // A number of 01, "Answers": a TAMP status (RFC 5934, section 5) or a house refusal.
 pub struct Status {
-    pub number: u32,
+    pub number: u8,
 }
 
 impl Status {
@@ -228,10 +228,11 @@ pub fn move_down(d: &mut [u8], from: usize, to: usize, n: usize)
     }
 }
 
-fn wide(x: u8) -> u64
+// An octet as a number.
+pub fn wide(x: u8) -> usize
     ensures { λ r. ⌜ r ≡ x ⌝ }
 {
-    x as u64
+    x as usize
 }
 
 // The number that the octets from place at on write: `width` of them, as many as there are, and 8 at most.
@@ -248,7 +249,7 @@ pub fn get_be(s: &[u8], at: usize, width: usize) -> u64
         if s.len() <= p {
             return n;
         }
-        n = n * 256 + wide(s[p]);
+        n = n * 256 + (wide(s[p]) as u64);
         p += 1;
         i += 1;
     }

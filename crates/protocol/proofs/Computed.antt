@@ -14,7 +14,7 @@ unfolding
     Rattle.der.specs.Check.sortedIn Rattle.der.specs.Check.der Rattle.der.specs.Check.spans Rattle.der.specs.Contents.integerOk
     Rattle.der.specs.Contents.booleanOk Rattle.der.specs.Contents.arcsOk Rattle.der.specs.Contents.oidOk Rattle.der.specs.Contents.contentsOk
     Rattle.der.specs.Element.lengthAt Rattle.der.specs.Element.lengthShortest Rattle.der.specs.Element.headed Rattle.der.specs.Element.elementAt
-    Rattle.der.specs.Element.elementsFrom Rattle.der.specs.Element.elements Rattle.der.specs.Element.withTag Rattle.der.specs.Fit.andThen
+    Rattle.der.specs.Element.elementsFrom Rattle.der.specs.Element.elements Rattle.der.specs.Element.withTag Rattle.der.specs.Keys.keyOf Rattle.der.specs.Keys.firstWith Rattle.der.specs.Fit.andThen
     Rattle.der.specs.Fit.held Rattle.der.specs.Fit.eachFrom Rattle.der.specs.Fit.each Rattle.der.specs.Fit.givenAt Rattle.der.specs.Oid.arc
     Rattle.der.specs.Oid.arcs Rattle.der.specs.Oid.oid Rattle.der.specs.Write.lengthOctets Rattle.der.specs.Write.element
 computed-der = tt
@@ -121,6 +121,11 @@ unfolding
     Rattle.protocol.specs.Examples.adjust5 Rattle.protocol.specs.Examples.adjust4 Rattle.protocol.specs.Examples.unsignedAttributes
     Rattle.protocol.specs.Examples.query6by02 Rattle.protocol.specs.Examples.queryElsewhere Rattle.protocol.specs.Examples.queryVerbose
     Rattle.protocol.specs.Examples.queryCut Rattle.protocol.specs.Examples.communityTwice Rattle.protocol.specs.Examples.addCertPath
+    Rattle.protocol.specs.Examples.opensslSigned Rattle.protocol.specs.Messages.signedAttrs
+    Rattle.protocol.specs.Messages.signedMessage Rattle.protocol.specs.Messages.signedBy Rattle.protocol.specs.Messages.trustAnchorInfo
+    Rattle.protocol.specs.Messages.contentConstraints Rattle.protocol.specs.PermitExamples.rows
+    Rattle.protocol.specs.PermitExamples.seasonRows Rattle.protocol.specs.PermitExamples.image
+    Rattle.protocol.specs.NotEmpty.image Rattle.protocol.specs.NotEmpty.enrols
     Rattle.protocol.specs.Update.added Rattle.protocol.specs.Update.removed Rattle.protocol.specs.Update.step
     Rattle.protocol.specs.Update.steps Rattle.protocol.specs.Update.stamped Rattle.protocol.specs.Update.allStamped
     Rattle.protocol.specs.Permit.signedContent Rattle.protocol.specs.Permit.permitBy Rattle.protocol.specs.Permit.permitOn

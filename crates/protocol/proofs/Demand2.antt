@@ -11,14 +11,18 @@ use borrow.Author.Tests.{not-true, not-false, ltb-true}
 use Rattle.octets.specs.declared.Status.{Status}
 use Rattle.octets.specs.Status.{success, notAuthorized}
 use Rattle.octets.specs.Limits.{maxUpdates}
+use Rattle.octets.specs.Octets.{Octets}
 use Rattle.octets.proofs.Lists.{by-test}
 use Rattle.der.specs.declared.Element.{Element}
 use Rattle.der.specs.Element.{whole}
+use Rattle.syntax.proofs.Rules.{octets-part}
 use Rattle.syntax.specs.declared.TampType.the-variants.{Update}
 use Rattle.rights.specs.Rights.{Rights, Outside}
+use Rattle.rights.proofs.Witness.{ValidRights, valid-outside}
 use Rattle.rights.proofs.Within.{within-iff, outside-iff, not-both}
 use Rattle.anchor.specs.Info.{rightsOf}
 use Rattle.anchor.specs.Judge.{judge, passes}
+use Rattle.anchor.proofs.Passed.{valid-rights}
 use Rattle.store.specs.Store.{Anchor, Store}
 use Rattle.message.specs.declared.Request.{Request}
 use Rattle.message.specs.declared.Entry.{Entry}
@@ -27,9 +31,10 @@ use Rattle.message.specs.Fields.{seqNumIn}
 use Rattle.protocol.specs.Acceptance.{rightsAt}
 use Rattle.protocol.specs.Update.{Step, added, step, steps}
 use Rattle.protocol.specs.Effect.{withNumber, updateEffect, effectOf, effect}
-use Rattle.protocol.specs.Demand2.{entriesOf, Confirms, Demand2}
+use Rattle.protocol.specs.Demand2.{entriesOf, Exactly, Confirms, Demand2}
 use Rattle.protocol.proofs.Lists.{by-given}
 use Rattle.protocol.proofs.Answer.{accepted-reply}
+use Rattle.protocol.proofs.ValidStore.{signer-valid}
 
 -- a status that is not 11
 other-status : {status : Status} → (status .number ≡ 11 → ⊥) → status ≡ notAuthorized → ⊥
@@ -69,7 +74,12 @@ module _ (s : List ℕ) (rights : Rights) (apex : Anchor) where
       let d = step s rights apex old new x in
       steps-iff (d .old) (d .new) es k e (omega arith) g p
 
-module _ (s : List ℕ) (q : Request) (rights : Rights) (σ : Store) where
+-- .. among contents by DER, where the rights of both have valid keys
+exactly : {status : Status} {signer new : Rights} → ValidRights signer → ValidRights new → (status ≡ notAuthorized) ↔ Outside signer new → Exactly status signer new
+exactly {signer = signer} {new = new} vs vn i =
+    (i, (λ e. valid-outside signer new vs vn (outside-iff signer new .1 (i .0 e)), λ o. i .1 (o .0, o .2, o .3)))
+
+module _ (s : List ℕ) (o : Octets s) (q : Request) (rights : Rights) (valid : ValidRights rights) (σ : Store) where
   update-confirms : length (entriesOf s q) ≤ maxUpdates → Confirms s q rights (updateEffect s q rights σ .reply)
   unfolding updateEffect
   update-confirms n =
@@ -80,16 +90,18 @@ module _ (s : List ℕ) (q : Request) (rights : Rights) (σ : Store) where
         statuses = steps s rights (σ .apex) (σ .others) [] (entriesOf s q) .statuses;
         confirm = rw (t, updateEffect);
         perEntry = steps-count s rights (σ .apex) (σ .others) [] (entriesOf s q);
-        adds = steps-iff s rights (σ .apex) (σ .others) [] (entriesOf s q);
+        adds =
+            λ k e h g p.
+            exactly valid (valid-rights (whole s e) (octets-part s (e .at) (e .stop) o) p) (steps-iff s rights (σ .apex) (σ .others) [] (entriesOf s q) k e h g p);
       })
 
-effect-confirms : (s : List ℕ) (q : Request) (i : ℕ) (σ : Store) → q .kind ≡ Update → length (entriesOf s q) ≤ maxUpdates
-    → Confirms s q (rightsAt σ i) (effect s q i σ .reply)
+effect-confirms : (s : List ℕ) → Octets s → (q : Request) (i : ℕ) (σ : Store) → ValidRights (rightsAt σ i) → q .kind ≡ Update
+    → length (entriesOf s q) ≤ maxUpdates → Confirms s q (rightsAt σ i) (effect s q i σ .reply)
 unfolding effect effectOf
-effect-confirms s q i σ k n =
+effect-confirms s o q i σ v k n =
     let after = withNumber i (seqNumIn s (q .msgref)) σ in
-    subst (λ kind. Confirms s q (rightsAt σ i) (effectOf kind s q (rightsAt σ i) after .reply)) (sym k) (update-confirms s q (rightsAt σ i) after n)
+    subst (λ kind. Confirms s q (rightsAt σ i) (effectOf kind s q (rightsAt σ i) after .reply)) (sym k) (update-confirms s o q (rightsAt σ i) v after n)
 
 pub demand2 : Demand2
-demand2 s image verdict replyLent nextLent status reply next e σ d q i j k n =
-    rw (accepted-reply s image verdict replyLent nextLent σ d e q i j) (effect-confirms s q i σ k n)
+demand2 s image verdict replyLent nextLent status reply next o os e σ d q i j k n =
+    rw (accepted-reply s image verdict replyLent nextLent σ d e q i j) (effect-confirms s o q i σ (signer-valid image σ os d i) k n)

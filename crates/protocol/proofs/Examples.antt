@@ -1,9 +1,13 @@
 -- The checked examples of 01, by computing.
 use mathlib.Core.Path.{refl}
 use Rattle.rights.proofs.Examples.{p1-to-p10}
-use Rattle.protocol.specs.Examples.{P11, P12, P1-P12, Listings, TwelveAnswers}
-use Rattle.protocol.specs.PermitExamples as permit
+use Rattle.protocol.specs.Examples.{Query6Octets, P11, P12, P1-P12, Listings, TwelveAnswers}
+use Rattle.protocol.specs.PermitExamples.{PermitAnswers}
 use Rattle.protocol.proofs.Computed.{computed}
+
+pub query6-octets : Query6Octets
+unfolding computed
+query6-octets = refl
 
 p11 : P11
 unfolding computed
@@ -25,6 +29,6 @@ pub twelve-answers : TwelveAnswers
 unfolding computed
 twelve-answers = (refl, refl, refl, refl, refl, refl, refl, refl, refl, refl, refl, refl)
 
-pub permit-answers : permit.PermitAnswers
-unfolding computed permit.rows permit.seasonRows permit.image
+pub permit-answers : PermitAnswers
+unfolding computed
 permit-answers = (refl, refl, refl, refl, refl, refl, refl, refl, refl, refl, refl, refl, refl, refl, refl)

@@ -8,6 +8,8 @@ pub mod WellFormed
 pub mod Records
 pub mod Demand3
 pub mod NotEmpty
+pub mod AddExamples
+pub mod ValidStore
 pub mod Demand2
 pub mod Permit
 pub mod Desk

@@ -9,7 +9,7 @@ use Rattle.octets.specs.First.{givenIf}
 use borrow.Author.Tests.{not-true}
 use Rattle.octets.specs.Lists.{anyOf, allOf, keep, distinctBy}
 use Rattle.octets.specs.Octets.{same, member, distinct}
-use Rattle.octets.proofs.Lists.{by-test, both, neither, same-sym, allOf-weaken, keep-in, keep-out, member-append, distinct-parts}
+use Rattle.octets.proofs.Lists.{by-test, both, neither, anyOf-map, same-sym, allOf-weaken, keep-in, keep-out, member-append, distinct-parts}
 
 module _ {A : Type 0} where
   -- what holds of the answer where its test applies, and of the next where it does not
@@ -176,11 +176,6 @@ keep-map p q f e (x ∷ l) =
 pub map-same : {A B : Type 0} {f g : A → B} → ((x : A) → f x ≡ g x) → (l : List A) → map f l ≡ map g l
 map-same e [] = refl
 map-same e (x ∷ l) = ap₂ _∷_ (e x) (map-same e l)
-
-pub anyOf-map : {A B : Type 0} (p : B → Bool) (f : A → B) (l : List A) → anyOf p (map f l) ≡ anyOf (λ x. p (f x)) l
-unfolding anyOf
-anyOf-map p f [] = refl
-anyOf-map p f (x ∷ l) = ap (λ b. p (f x) || b) (anyOf-map p f l)
 
 -- no two equal
 

@@ -1,4 +1,4 @@
--- 01, Answers: "All else is an answer with a TAMP status". Every status that a call answers with is below 128, one octet of a reply; a house refusal is 201 or above.
+-- 01, Answers: "All else is an answer with a TAMP status". Every status that a call answers with is below 128, so that it is one octet of an ENUMERATED; a house refusal is 201 or above.
 use Prim.Native.Nat.{ℕ, _≤_, _<_}
 use native.Mathlib.Omega.{arith}
 use mathlib.Core.Bool.{Bool}
@@ -126,11 +126,7 @@ in-judgement σ verdict s = go (received s) (in-received s)
     go (Refused r) h = h
     go (Asks q) h = by q (signer (identifiers σ) verdict (contents s (q .signer)))
 
--- every refusal of a message
-pub refusal-small : (σ : Store) (verdict s : List ℕ) (r : Refusal) → judgement σ verdict s ≡ Refuses r → r .status .number < 128
-refusal-small σ verdict s r e = rw e at (in-judgement σ verdict s)
-
-pub community-small : (present : Bool) (removals additions communities : List (List ℕ)) → communityStatus present removals additions communities .number < 128
+community-small : (present : Bool) (removals additions communities : List (List ℕ)) → communityStatus present removals additions communities .number < 128
 unfolding communityStatus
 community-small present removals additions communities =
     let P : Status → Type 0 = λ status. status .number < 128 in
@@ -148,7 +144,7 @@ effectOf-small Update s q rights σ =
 effectOf-small CommunityUpdate s q rights σ = community-small _ _ _ (σ .communities)
 effectOf-small SeqNumAdjust s q rights σ = omega arith
 
-pub effect-small : (s : List ℕ) (q : Request) (i : ℕ) (σ : Store) → effect s q i σ .status .number < 128
+effect-small : (s : List ℕ) (q : Request) (i : ℕ) (σ : Store) → effect s q i σ .status .number < 128
 unfolding effect
 effect-small s q i σ = effectOf-small (q .kind) s q _ _
 

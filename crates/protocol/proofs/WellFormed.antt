@@ -12,7 +12,7 @@ use Rattle.octets.specs.declared.Status.{Status}
 use Rattle.octets.specs.Limits.{maxAnchors, maxCommunities, maxName, maxNumber, maxUpdates}
 use Rattle.octets.specs.Lists.{allOf, anyOf, keep}
 use Rattle.octets.specs.Octets.{Octets, same, member, distinct}
-use Rattle.octets.proofs.Lists.{by-test, both, neither, keep-in, keep-length, distinct-none}
+use Rattle.octets.proofs.Lists.{anyOf-map, by-test, both, neither, keep-in, keep-length, distinct-none}
 use Rattle.der.specs.Element.{whole}
 use Rattle.der.specs.Contents.{oidOk}
 use Rattle.syntax.specs.declared.TampType.{TampType}
@@ -44,7 +44,6 @@ use Rattle.protocol.proofs.Answer.{answered-store, by-answer, accepted-
 use Rattle.protocol.proofs.Lists.{
   by-given,
   keep-append,
-  anyOf-map,
   map-same,
   allOf-keep,
   allOf-kept,

@@ -64,7 +64,7 @@ unfoldable pub authorising : Content → List (List ℕ) → List (List ℕ)
 authorising content [] = []
 authorising content (apex ∷ others) = apex ∷ keep (λ r. authorises (rightsOf (drop 11 r)) content) others
 
--- "Then the anchors that authorise the content after the list are exactly those that authorised it at the start, in the same order, and their records are equal to the last byte."
+-- "Then the anchors that authorise the content after the list are exactly those that authorised it at the start, in the same order, and their records are equal to the last byte, sequence numbers included."
 abbrev pub Demand3 : Type 0
 Demand3 =
     (image : List ℕ) (σ : Store) → Octets image → decode image ≡ some σ →

@@ -4,7 +4,7 @@ use mathlib.Core.Bool.{true, false}
 use mathlib.Core.List.{List, [], _∷_, _++_}
 use lib.ListN.{length}
 use lib.Dec.{ltb}
-pub use Rattle.edit.specs.Steps.{withOthers, withCommunities}
+pub use Rattle.store.specs.Steps.{withOthers, withCommunities}
 use Rattle.octets.specs.declared.Status.{Status}
 use Rattle.octets.specs.Status.{success, insufficientMemory}
 use Rattle.octets.specs.Limits.{maxUpdates}

@@ -4,6 +4,7 @@ pub mod Community
 pub mod Effect
 pub mod Call
 pub mod Demand3
+pub mod Messages
 pub mod Examples
 pub mod Demand2
 pub mod Permit
@@ -11,3 +12,6 @@ pub mod PermitExamples
 pub mod Permitted
 pub mod Desk
 pub mod OneReading
+pub mod NotEmpty
+pub mod AddExamples
+pub mod DeskExample

@@ -4,9 +4,9 @@ use mathlib.Core.Bool.{Bool, true, false, not, _&&_}
 use mathlib.Core.List.{List, [], _∷_, _++_, map}
 use lib.ListN.{length}
 use lib.Dec.{leb}
-pub use Rattle.edit.specs.Steps.{unnumbered, numbered}
+pub use Rattle.store.specs.Steps.{unnumbered, numbered}
 use Rattle.octets.specs.declared.Status.{Status}
-use Rattle.octets.specs.Status.{success, notAuthorized, insufficientMemory, apexTAMPAnchor, improperTAAddition, trustAnchorNotFound, improperTAChange}
+use Rattle.octets.specs.Status.{success, notAuthorized, insufficientMemory, apexTAMPAnchor, improperTAAddition, trustAnchorNotFound, unsupportedTrustAnchorFormat, improperTAChange}
 use Rattle.octets.specs.Limits.{maxAnchors}
 use Rattle.octets.specs.First.{givenIf}
 use Rattle.octets.specs.Lists.{anyOf, keep}
@@ -14,7 +14,6 @@ use Rattle.octets.specs.Octets.{same}
 use Rattle.der.specs.Element.{whole}
 use Rattle.rights.specs.Rights.{Rights}
 use Rattle.rights.specs.Decision.{within}
-use Rattle.anchor.specs.declared.Judged.the-variants as judged
 use Rattle.anchor.specs.Info.{publicKey, rightsOf}
 use Rattle.anchor.specs.Judge.{judge, statusOf, passes}
 use Rattle.store.specs.Store.{Anchor, keyOf, identifierOf}
@@ -66,7 +65,7 @@ removed rights apex old new key =
 -- an entry of message s: add (34 for the certificate forms), remove, or change (35)
 unfoldable pub step : List ℕ → Rights → Anchor → List Anchor → List Anchor → Entry → Step
 step s rights apex old new (entry.Add e) = added rights apex old new (whole s e)
-step s rights apex old new entry.AddCertificate = unchanged (statusOf judged.CertificateForm) old new
+step s rights apex old new entry.AddCertificate = unchanged unsupportedTrustAnchorFormat old new
 step s rights apex old new (entry.Remove e) = removed rights apex old new (keyIn s e)
 step s rights apex old new entry.Change = unchanged improperTAChange old new
 

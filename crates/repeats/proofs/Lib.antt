@@ -1,4 +1,4 @@
 pub mod Keys
-pub mod Numbers
-pub mod Steps
-pub mod Rests
+pub mod Flags
+pub mod Led
+pub mod Repeats

@@ -1,28 +1,23 @@
--- What the members of a list are compared by, and how often a key stands in it. 01, Answers, status 7: "a type repeated"; After acceptance, 34: "a repeated
+-- The first member of a list whose key stood before. 01, Answers, status 7: "a type repeated"; After acceptance, 34: "a repeated
 -- extension", "a repeated type or value"; 24: "an OID occurs twice in its two lists".
 use Prim.Native.Nat.{ℕ}
-use mathlib.Core.List.{List, map}
-use lib.ListN.{length}
-use Rattle.octets.specs.Lists.{keep}
-use Rattle.octets.specs.Octets.{same}
+use mathlib.Core.Bool.{Bool, true, false}
+use mathlib.Core.List.{List, [], _∷_, _++_}
+use lib.Dec.{eqb}
+use Rattle.octets.specs.Octets.{member}
 use Rattle.der.specs.declared.Element.{Element}
-use Rattle.der.specs.Element.{elements, whole, contents, field}
-use Rattle.repeats.specs.declared.Compared.{Compared}
-use Rattle.repeats.specs.declared.Compared.the-variants.{Types, Contents, Octets}
+use Rattle.der.specs.Keys.{keyOf}
+use Rattle.der.specs.declared.Compared.{Compared}
+use Rattle.repeats.specs.declared.Repeat.{Repeat}
+use Rattle.repeats.specs.declared.Repeat.the-variants.{Never, At}
 
--- a member's type (the contents of its OID), its contents, or all its octets
-unfoldable pub keyOf : Compared → List ℕ → Element → List ℕ
-keyOf Types s e = contents s (field 0x06 s e)
-keyOf Contents s e = contents s e
-keyOf Octets s e = whole s e
+-- the first member whose key is one of those seen, or that of a member before it
+unfoldable pub firstRepeat : Compared → List ℕ → List (List ℕ) → List Element → Repeat
+firstRepeat by s seen [] = Never
+firstRepeat by s seen (e ∷ es) =
+    elim (member (keyOf by s e) seen) [ true ↦ At (e .at) | false ↦ firstRepeat by s (seen ++ (keyOf by s e ∷ [])) es ]
 
--- the keys of a run of elements, and of the members of an element
-abbrev pub keysFrom : Compared → List ℕ → ℕ → ℕ → List (List ℕ)
-keysFrom by s at stop = map (keyOf by s) (elements s at stop)
-
-abbrev pub keysIn : Compared → List ℕ → Element → List (List ℕ)
-keysIn by s list = keysFrom by s (list .start) (list .stop)
-
--- how many are the key k
-abbrev pub count : List ℕ → List (List ℕ) → ℕ
-count k keys = length (keep (same k) keys)
+-- that is the member at a place
+abbrev pub isAt : Repeat → ℕ → Bool
+isAt Never place = false
+isAt (At p) place = eqb p place

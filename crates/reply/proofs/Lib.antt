@@ -1,10 +1,8 @@
 pub mod Again
 pub mod Held
 pub mod Lent
-pub mod Codes
-pub mod Calls
-pub mod Sizes
 pub mod Chain
-pub mod TwoParts
+pub mod Elements
+pub mod Codes
 pub mod Members
-pub mod SliceOp
+pub mod Answers

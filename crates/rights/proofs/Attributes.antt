@@ -1,5 +1,5 @@
 -- Status 11: which signed attributes are weighed, what each asks of the governing entry, and what the anchor authorises.
-use Prim.Native.Nat.{ℕ, _≤_, _<_}
+use Prim.Native.Nat.{ℕ}
 use mathlib.Core.Bool.{Bool, true, false, not, _&&_}
 use mathlib.Core.List.{List, [], _∷_, map}
 use mathlib.Core.Path.{_≡_, refl, sym, ap, _∙_}
@@ -9,16 +9,16 @@ use Rattle.octets.specs.Octets.{same, member}
 use Rattle.octets.specs.Number.{digits}
 use Rattle.octets.proofs.Lists.{by-test, keep-in, keep-out}
 use Rattle.der.specs.declared.Element.{Element}
-use Rattle.der.specs.Element.{elementAt, elements, whole, inside, field}
+use Rattle.der.specs.Element.{elementAt, whole, inside, field}
+use Rattle.der.specs.Keys.{typeOf}
 use Rattle.der.specs.Oid.{arc, arcs, oid}
 use Rattle.syntax.specs.Types.{id-contentType, id-messageDigest}
-use Rattle.rights.specs.declared.Found.{Found}
-use Rattle.rights.specs.declared.Found.the-variants.{At, Nowhere}
-use Rattle.rights.specs.Rights.{Key, Entry, Content, source, carrier, mayAct, allowed, meets, permits, authorises}
+use Rattle.der.specs.declared.Found.{Found}
+use Rattle.der.specs.declared.Found.the-variants.{At, Nowhere}
+use Rattle.rights.specs.Rights.{Key, Entry, Role, Content, source, carrier, mayAct, allowed, meets, permits, authorises}
 use Rattle.rights.specs.Constraints.{contentTypeConstraint, constraintsRights}
-use Rattle.rights.specs.Attributes.{attrType, attrValue, weighed, pairs}
-use Rattle.rights.specs.Places.{behind, constraintFor, valuesUnder, governingEntry, entryOf, holding, attributeMeets}
-use Rattle.rights.proofs.Run.{turn, done}
+use Rattle.rights.specs.Attributes.{attrValue, weighed, pairs}
+use Rattle.rights.specs.Places.{constraintFor, valuesUnder, governingEntry, entryOf, holding, attributeMeets}
 use Rattle.rights.proofs.Places.{values-under, governing-entry}
 
 -- the two types that are not weighed, as the code's constants have them
@@ -37,18 +37,18 @@ messageDigest-is : messageDigestOctets ≡ id-messageDigest
 unfolding oid arcs arc digits
 messageDigest-is = refl
 
-module _ (s : List ℕ) (e : Element) {t : List ℕ} (q : t ≡ attrType s e) {r : Bool} (h : r ≡ same t contentTypeOctets) where
-  is-type : r ≡ same (attrType s e) id-contentType
+module _ (s : List ℕ) (e : Element) {t : List ℕ} (q : t ≡ typeOf s e) {r : Bool} (h : r ≡ same t contentTypeOctets) where
+  is-type : r ≡ same (typeOf s e) id-contentType
   is-type = h ∙ ap (same t) contentType-is ∙ ap (λ (x : List ℕ). same x id-contentType) q
 
   pub content-type : r ≡ true → false ≡ weighed s e
   unfolding weighed
   content-type b = rw (sym is-type ∙ b)
 
-  pub other-type : r ≡ false → {u : List ℕ} → u ≡ attrType s e → {d : Bool} → d ≡ same u messageDigestOctets → not d ≡ weighed s e
+  pub other-type : r ≡ false → {u : List ℕ} → u ≡ typeOf s e → {d : Bool} → d ≡ same u messageDigestOctets → not d ≡ weighed s e
   unfolding weighed
   other-type b {u} w {d} k =
-      let g : d ≡ same (attrType s e) id-messageDigest = k ∙ ap (same u) messageDigest-is ∙ ap (λ (x : List ℕ). same x id-messageDigest) w in
+      let g : d ≡ same (typeOf s e) id-messageDigest = k ∙ ap (same u) messageDigest-is ∙ ap (λ (x : List ℕ). same x id-messageDigest) w in
       rw (sym is-type ∙ b, g)
 
 pub value-found : (s : List ℕ) (e : Element) {f : Element} → f ≡ field 0x31 s e → {x : Element} → x ≡ elementAt s (f .start) (f .stop)
@@ -66,13 +66,13 @@ module _ (v : List ℕ) (entry : Element) (s : List ℕ) (e : Element) {b : Bool
   unfolding attributeMeets
   not-weighed n = let h = sym w ∙ not-true b n in rw (h, attributeMeets)
 
-  module _ (n : not b ≡ false) {t : Key} (y : t ≡ attrType s e) {f : Found} (h : f ≡ constraintFor v entry t) where
+  module _ (n : not b ≡ false) {t : Key} (y : t ≡ typeOf s e) {f : Found} (h : f ≡ constraintFor v entry t) where
     weighed-meets : {x : Found} → f ≡ x → attributeMeets (entryOf v entry) s e ≡ allowed (holding (valuesUnder v) x) (whole s (attrValue s e))
     unfolding attributeMeets meets
     weighed-meets g =
         let k = sym w ∙ not-false b n in
         let u = sym (h ∙ ap (constraintFor v entry) y) ∙ g in
-        rw (k, attributeMeets, values-under v entry (attrType s e), u)
+        rw (k, attributeMeets, values-under v entry (typeOf s e), u)
 
     pub not-constrained : f ≡ Nowhere → true ≡ attributeMeets (entryOf v entry) s e
     unfolding allowed holding
@@ -83,71 +83,51 @@ module _ (v : List ℕ) (entry : Element) (s : List ℕ) (e : Element) {b : Bool
     unfolding allowed holding
     constrained {a} g j k = k ∙ ap (λ (z : Key). member z (valuesUnder v a)) j ∙ sym (weighed-meets g)
 
--- the loop over the attributes
-module _ (meet : Element → Bool) (s : List ℕ) (i stop : ℕ) {x : Bool} (rest : allOf meet (elements s i stop) ≡ x) where
-  pub meet-end : stop ≤ i → true ≡ x
-  unfolding allOf
-  meet-end l = done s i stop l (allOf meet) rest
-
-  module _ (l : i < stop) {e : Element} (q : e ≡ elementAt s i stop) {r : Bool} (h : r ≡ meet e) where
-    pub meet-fails : not r ≡ true → false ≡ x
-    unfolding allOf
-    meet-fails b = sym (rw (sym h ∙ not-true r b)) ∙ turn s i stop (behind e stop) q l refl (allOf meet) rest
-
-    pub meet-later : not r ≡ false → {j : ℕ} → j ≡ behind e stop → allOf meet (elements s j stop) ≡ x
-    unfolding allOf
-    meet-later b {j} n = sym (rw (sym h ∙ not-false r b)) ∙ turn s i stop j q l n (allOf meet) rest
-
 -- the pairs that the signed attributes are
 
 pairs-kept :
     (entry : Entry) (s : List ℕ) (l : List Element)
-    → allOf (meets (entry .constraints)) (map (λ e. (attrType s e, whole s (attrValue s e))) (keep (weighed s) l)) ≡ allOf (attributeMeets entry s) l
+    → allOf (meets (entry .constraints)) (map (λ e. (typeOf s e, whole s (attrValue s e))) (keep (weighed s) l)) ≡ allOf (attributeMeets entry s) l
 unfolding allOf keep attributeMeets
 pairs-kept entry s [] = refl
 pairs-kept entry s (e ∷ l) =
     let rest = pairs-kept entry s l in
     by-test (weighed s e)
-    (λ t. rw (keep-in (weighed s) e l t, t, attributeMeets) (ap (λ (b : Bool). meets (entry .constraints) (attrType s e, whole s (attrValue s e)) && b) rest))
+    (λ t. rw (keep-in (weighed s) e l t, t, attributeMeets) (ap (λ (b : Bool). meets (entry .constraints) (typeOf s e, whole s (attrValue s e)) && b) rest))
     (λ t. rw (keep-out (weighed s) e l t, t, attributeMeets) rest)
 
-pub pairs-meet :
+pairs-meet :
     (entry : Entry) (s : List ℕ) (attributes : Element)
     → allOf (meets (entry .constraints)) (pairs s attributes) ≡ allOf (attributeMeets entry s) (inside s attributes)
 unfolding pairs
 pairs-meet entry s attributes = pairs-kept entry s (inside s attributes)
 
--- the content of a message
-abbrev pub messageContent : Key → List ℕ → Element → Content
-messageContent k s attributes = record { type = k; role = source; attributes = pairs s attributes }
+-- the content of a message, as its source's or a carrier's
+abbrev pub messageContent : Role → Key → List ℕ → Element → Content
+messageContent role k s attributes = record { type = k; role = role; attributes = pairs s attributes }
 
 module _ (v : List ℕ) (k : Key) (s : List ℕ) (attributes : Element) {f : Found} (h : f ≡ governingEntry v k) where
-  pub not-governed : f ≡ Nowhere → false ≡ authorises (constraintsRights v) (messageContent k s attributes)
+  pub not-governed : (role : Role) → f ≡ Nowhere → false ≡ authorises (constraintsRights v) (messageContent role k s attributes)
   unfolding authorises holding permits
-  not-governed g = rw (governing-entry v k, sym h ∙ g)
+  not-governed role g = rw (governing-entry v k, sym h ∙ g)
 
-  module _ {e : Element} (g : f ≡ At e) {b : Bool} (c : b ≡ entryOf v e .canSource) where
-    governed : authorises (constraintsRights v) (messageContent k s attributes) ≡ b && allOf (meets (entryOf v e .constraints)) (pairs s attributes)
-    unfolding authorises holding permits mayAct
-    governed = rw (governing-entry v k, sym h ∙ g, c)
+  module _ {e : Element} (g : f ≡ At e) where
+    governed : (role : Role) → authorises (constraintsRights v) (messageContent role k s attributes)
+        ≡ mayAct role (entryOf v e .canSource) && allOf (attributeMeets (entryOf v e) s) (inside s attributes)
+    unfolding authorises holding permits
+    governed role = rw (governing-entry v k, sym h ∙ g, pairs-meet (entryOf v e) s attributes)
 
-    pub not-source : not b ≡ true → false ≡ authorises (constraintsRights v) (messageContent k s attributes)
-    not-source n = sym (governed ∙ rw (not-true b n))
+    pub carried : {r : Bool} → r ≡ allOf (attributeMeets (entryOf v e) s) (inside s attributes)
+        → r ≡ authorises (constraintsRights v) (messageContent carrier k s attributes)
+    unfolding mayAct
+    carried j = j ∙ sym (governed carrier)
 
-    pub all-meet : not b ≡ false → {r : Bool} → r ≡ allOf (attributeMeets (entryOf v e) s) (inside s attributes)
-        → r ≡ authorises (constraintsRights v) (messageContent k s attributes)
-    all-meet n j = j ∙ sym (governed ∙ rw (not-false b n) (pairs-meet (entryOf v e) s attributes))
+    module _ {b : Bool} (c : b ≡ entryOf v e .canSource) where
+      pub not-source : not b ≡ true → false ≡ authorises (constraintsRights v) (messageContent source k s attributes)
+      unfolding mayAct
+      not-source n = sym (governed source ∙ rw (sym c ∙ not-true b n))
 
--- the same content in the role of a carrier
-abbrev carriedContent : Key → List ℕ → Element → Content
-carriedContent k s attributes = record { type = k; role = carrier; attributes = pairs s attributes }
-
-module _ (v : List ℕ) (k : Key) (s : List ℕ) (attributes : Element) {f : Found} (h : f ≡ governingEntry v k) where
-  pub not-carried : f ≡ Nowhere → false ≡ authorises (constraintsRights v) (carriedContent k s attributes)
-  unfolding authorises holding permits
-  not-carried g = rw (governing-entry v k, sym h ∙ g)
-
-  pub carried : {e : Element} → f ≡ At e → {r : Bool} → r ≡ allOf (attributeMeets (entryOf v e) s) (inside s attributes)
-      → r ≡ authorises (constraintsRights v) (carriedContent k s attributes)
-  unfolding authorises holding permits mayAct
-  carried {e} g j = j ∙ sym (rw (governing-entry v k, sym h ∙ g) (pairs-meet (entryOf v e) s attributes))
+      pub all-meet : not b ≡ false → {r : Bool} → r ≡ allOf (attributeMeets (entryOf v e) s) (inside s attributes)
+          → r ≡ authorises (constraintsRights v) (messageContent source k s attributes)
+      unfolding mayAct
+      all-meet n j = j ∙ sym (governed source ∙ rw (sym c ∙ not-false b n))

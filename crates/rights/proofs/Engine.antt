@@ -2,14 +2,20 @@
 -- A law that is named for a step of the code has what the calls before it promise as premises, in the order in which they come.
 use Prim.Native.Nat.{ℕ, _≤_, _<_}
 use mathlib.Core.Bool.{Bool, true, false, not, _&&_}
-use mathlib.Core.List.{List, [], _∷_, _++_}
+use mathlib.Core.List.{List, [], _∷_, _++_, map}
 use mathlib.Core.Option.{Option, none, some, orElse, Option·map}
 use mathlib.Core.Path.{_≡_, refl, sym, ap, ap₂, _∙_}
 use borrow.Author.Tests.{not-true, not-false}
+use Rattle.octets.specs.Octets.{member}
 use Rattle.der.specs.declared.Element.{Element}
-use Rattle.der.specs.Element.{elementAt, elements, root, whole, inside, field}
-use Rattle.rights.specs.declared.Found.{Found}
-use Rattle.rights.specs.declared.Found.the-variants.{At, Nowhere}
+use Rattle.der.specs.declared.Compared.{Compared}
+use Rattle.der.specs.declared.Compared.the-variants.{Types, Octets}
+use Rattle.der.specs.Element.{elementAt, nextAt, elements, root, whole, inside, field}
+use Rattle.der.specs.Keys.{typeOf, keyOf, keysFrom, keysIn}
+use Rattle.der.proofs.Keys.{first-key}
+use Rattle.der.proofs.Loops.{loop-end, loop-turn}
+use Rattle.der.specs.declared.Found.{Found}
+use Rattle.der.specs.declared.Found.the-variants.{At, Nowhere}
 use Rattle.rights.specs.declared.Excess.{Excess}
 use Rattle.rights.specs.declared.Excess.the-variants.{Carried, Sourced, Listed, Unlisted}
 use Rattle.rights.specs.declared.Judged.{Judged}
@@ -41,10 +47,9 @@ use Rattle.rights.specs.Decision.{
   within,
 }
 use Rattle.rights.specs.Constraints.{constraintsRights}
-use Rattle.rights.specs.Places.{behind, typeIn, typesOf, constraintFor, valuesUnder, anyEntry, governingEntry, entryOf, holding}
-use Rattle.rights.specs.Answer.{excessContent, judgedContent, pickedContent, typeOf, contentOf}
-use Rattle.rights.proofs.Run.{turn, done}
-use Rattle.rights.proofs.Places.{values-under, first-type, governing-entry, any-entry, listed-types, constrained-types}
+use Rattle.rights.specs.Places.{constraintFor, valuesUnder, anyEntry, governingEntry, entryOf, holding}
+use Rattle.rights.specs.Answer.{excessContent, judgedContent, pickedContent, listedType, contentOf}
+use Rattle.rights.proofs.Places.{values-under, governing-entry, any-entry, listed-types, constrained-types}
 use Rattle.rights.proofs.Types.{governing-unlisted, neither-lists, unlistedType-new}
 
 -- one attribute type of two entries
@@ -60,8 +65,9 @@ module _ (signer new : List ℕ) (s n : Element) (k : Key) where
     attribute-free g type = rw (values-under signer s k, sym h₁ ∙ g)
 
     module _ {a : Element} (g₁ : f ≡ At a) {g : Found} (h₂ : g ≡ constraintFor new n k) where
-      typed : typeIn signer a ≡ k
-      typed = first-type signer k (inside signer (field 0x30 signer s)) (sym h₁ ∙ g₁)
+      typed : typeOf signer a ≡ k
+      unfolding keyOf
+      typed = first-key Types signer k (inside signer (field 0x30 signer s)) (sym h₁ ∙ g₁)
 
       pub attribute-open : g ≡ Nowhere → {m : ℕ} → m ≡ fresh integer (valuesUnder signer a)
           → (type : Key) → judgedContent signer new type (judged.Outside (Unlisted a m)) ≡ attribute type
@@ -77,33 +83,56 @@ module _ (signer new : List ℕ) (s n : Element) (k : Key) where
         unfolding judgedContent attributeOutside valueOutside holding
         attribute-within q type = rw (values-under signer s k, values-under new n k, sym h₁ ∙ g₁, sym h₂ ∙ g₂, ← h₃, q)
 
--- the first answer on the types of a run, as a loop finds it
+-- the first answer on the keys of a run, as a loop finds it
 
-module _ {A : Type 0} (f : Key → Option A) (v : List ℕ) where
-  first-answer : List Element → Option A
-  first-answer l = findSome f (typesOf v l)
+module _ {A : Type 0} (f : Key → Option A) (by : Compared) (v : List ℕ) where
+  abbrev firstAnswer : List Element → Option A
+  firstAnswer l = findSome f (map (keyOf by v) l)
 
-  answer-hit : (e : Element) (l : List Element) {y : A} → f (typeIn v e) ≡ some y → first-answer (e ∷ l) ≡ some y
-  unfolding first-answer findSome typesOf orElse
+  answer-hit : (e : Element) (l : List Element) {y : A} → f (keyOf by v e) ≡ some y → firstAnswer (e ∷ l) ≡ some y
+  unfolding findSome orElse
   answer-hit e l q = rw q
 
-  answer-miss : (e : Element) (l : List Element) → f (typeIn v e) ≡ none → first-answer (e ∷ l) ≡ first-answer l
-  unfolding first-answer findSome typesOf orElse
+  answer-miss : (e : Element) (l : List Element) → f (keyOf by v e) ≡ none → firstAnswer (e ∷ l) ≡ firstAnswer l
+  unfolding findSome orElse
   answer-miss e l q = rw q
 
-  module _ (i stop : ℕ) {x : Option A} (rest : findSome f (typesOf v (elements v i stop)) ≡ x) where
+  module _ (i stop : ℕ) {x : Option A} (rest : findSome f (keysFrom by v i stop) ≡ x) where
     answer-end : stop ≤ i → none ≡ x
-    unfolding first-answer findSome typesOf
-    answer-end l = done v i stop l first-answer rest
+    unfolding findSome
+    answer-end l = loop-end firstAnswer v i stop rest l
 
     module _ (l : i < stop) {e : Element} (q : e ≡ elementAt v i stop) where
-      answer-here : {y : A} → f (typeIn v e) ≡ some y → x ≡ some y
-      unfolding first-answer
-      answer-here h = sym (turn v i stop (behind e stop) q l refl first-answer rest) ∙ answer-hit e _ h
+      answer-here : {y : A} → f (keyOf by v e) ≡ some y → x ≡ some y
+      answer-here h = sym (loop-turn firstAnswer v i stop rest l q refl) ∙ answer-hit e (elements v (nextAt e stop) stop) h
 
-      answer-later : f (typeIn v e) ≡ none → {j : ℕ} → j ≡ behind e stop → findSome f (typesOf v (elements v j stop)) ≡ x
-      unfolding first-answer
-      answer-later h {j} n = sym (answer-miss e _ h) ∙ turn v i stop j q l n first-answer rest
+      answer-later : f (keyOf by v e) ≡ none → {j : ℕ} → j ≡ nextAt e stop → findSome f (keysFrom by v j stop) ≡ x
+      answer-later h {j} n = sym (answer-miss e (elements v j stop) h) ∙ loop-turn firstAnswer v i stop rest l q n
+
+-- the first value that is not listed
+
+module _ (values : List Key) (new : List ℕ) (constraint : Element) {list : Element} (o : list ≡ field 0x31 new constraint) (i : ℕ)
+    (rest : findSome (unlisted values) (keysFrom Octets new i (list .stop)) ≡ findSome (unlisted values) (keysIn Octets new list)) where
+  unlisted-all : findSome (unlisted values) (keysIn Octets new list) ≡ findSome (unlisted values) (valuesUnder new constraint)
+  unlisted-all = ap (λ (x : Element). findSome (unlisted values) (keysIn Octets new x)) o
+
+  pub unlisted-end : list .stop ≤ i → holding (whole new) Nowhere ≡ findSome (unlisted values) (valuesUnder new constraint)
+  unfolding holding
+  unlisted-end l = answer-end (unlisted values) Octets new i (list .stop) rest l ∙ unlisted-all
+
+  module _ (l : i < list .stop) {e : Element} (q : e ≡ elementAt new i (list .stop)) {t : Key} (w : t ≡ whole new e) {r : Bool} (h : r ≡ member t values) where
+    pub unlisted-here : not r ≡ true → holding (whole new) (At e) ≡ findSome (unlisted values) (valuesUnder new constraint)
+    unfolding holding unlisted keyOf
+    unlisted-here b =
+        let m = ap (λ (k : Key). member k values) (sym w) ∙ sym h ∙ not-true r b in
+        sym (answer-here (unlisted values) Octets new i (list .stop) rest l q (rw (m, unlisted))) ∙ unlisted-all
+
+    pub unlisted-later : not r ≡ false → {j : ℕ} → j ≡ nextAt e (list .stop)
+        → findSome (unlisted values) (keysFrom Octets new j (list .stop)) ≡ findSome (unlisted values) (keysIn Octets new list)
+    unfolding unlisted keyOf
+    unlisted-later b n =
+        let m = ap (λ (k : Key). member k values) (sym w) ∙ sym h ∙ not-false r b in
+        answer-later (unlisted values) Octets new i (list .stop) rest l q (rw (m, unlisted)) n
 
 -- of all attribute types that the signer's entry constrains
 
@@ -115,20 +144,20 @@ module _ (signer new : List ℕ) (s n : Element) where
   pair type = Option·map (onePair type) (pairOutside (entryOf signer s .constraints) (entryOf new n .constraints))
 
   pair-types : {outer : Element} → outer ≡ field 0x30 signer s
-      → findSome of-type (typesOf signer (inside signer outer)) ≡ pairOutside (entryOf signer s .constraints) (entryOf new n .constraints)
+      → findSome of-type (keysIn Types signer outer) ≡ pairOutside (entryOf signer s .constraints) (entryOf new n .constraints)
   unfolding pairOutside
-  pair-types o = ap (λ (x : Element). findSome of-type (typesOf signer (inside signer x))) o ∙ ap (findSome of-type) (sym (constrained-types signer s))
+  pair-types o = ap (λ (x : Element). findSome of-type (keysIn Types signer x)) o ∙ ap (findSome of-type) (sym (constrained-types signer s))
 
   module _ {outer : Element} (o : outer ≡ field 0x30 signer s) (i : ℕ)
-      (rest : findSome of-type (typesOf signer (elements signer i (outer .stop))) ≡ findSome of-type (typesOf signer (inside signer outer))) where
+      (rest : findSome of-type (keysFrom Types signer i (outer .stop)) ≡ findSome of-type (keysIn Types signer outer)) where
     pub pair-end : outer .stop ≤ i → (type : Key) → judgedContent signer new type judged.Within ≡ pair type
     unfolding judgedContent
-    pair-end l type = ap (Option·map (onePair type)) (answer-end of-type signer i (outer .stop) rest l ∙ pair-types o)
+    pair-end l type = ap (Option·map (onePair type)) (answer-end of-type Types signer i (outer .stop) rest l ∙ pair-types o)
 
-    module _ (l : i < outer .stop) {e : Element} (q : e ≡ elementAt signer i (outer .stop)) {t : Key} (w : t ≡ typeIn signer e) {r : Judged}
+    module _ (l : i < outer .stop) {e : Element} (q : e ≡ elementAt signer i (outer .stop)) {t : Key} (w : t ≡ typeOf signer e) {r : Judged}
         (h : (type : Key) → judgedContent signer new type r ≡ Option·map (onePair type) (of-type t)) where
       pub pair-here : {x : Excess} → r ≡ judged.Outside x → (type : Key) → judgedContent signer new type (judged.Outside x) ≡ pair type
-      unfolding judgedContent
+      unfolding judgedContent keyOf
       pair-here {x} g type = go (of-type t) refl
         where
           go : (p : Option (Key × Key)) → of-type t ≡ p → judgedContent signer new type (judged.Outside x) ≡ pair type
@@ -136,12 +165,12 @@ module _ (signer new : List ℕ) (s n : Element) where
           go (some y) a =
               ap (judgedContent signer new type) (sym g)
               ∙ h type
-              ∙ ap (Option·map (onePair type)) (a ∙ sym (answer-here of-type signer i (outer .stop) rest l q (ap of-type (sym w) ∙ a)) ∙ pair-types o)
+              ∙ ap (Option·map (onePair type)) (a ∙ sym (answer-here of-type Types signer i (outer .stop) rest l q (ap of-type (sym w) ∙ a)) ∙ pair-types o)
 
-      pub pair-later : r ≡ judged.Within → {j : ℕ} → j ≡ behind e (outer .stop)
-          → findSome of-type (typesOf signer (elements signer j (outer .stop))) ≡ findSome of-type (typesOf signer (inside signer outer))
-      unfolding judgedContent
-      pair-later g n = answer-later of-type signer i (outer .stop) rest l q (ap of-type (sym w) ∙ go (of-type t) refl) n
+      pub pair-later : r ≡ judged.Within → {j : ℕ} → j ≡ nextAt e (outer .stop)
+          → findSome of-type (keysFrom Types signer j (outer .stop)) ≡ findSome of-type (keysIn Types signer outer)
+      unfolding judgedContent keyOf
+      pair-later g n = answer-later of-type Types signer i (outer .stop) rest l q (ap of-type (sym w) ∙ go (of-type t) refl) n
         where
           go : (p : Option (Key × Key)) → of-type t ≡ p → of-type t ≡ none
           go none a = a
@@ -210,27 +239,27 @@ module _ (signer new : List ℕ) where
 
   -- of the types that v lists
   module _ (v : List ℕ) where
-    listed-answer : {outer : Element} → outer ≡ root v → findSome of-content-type (typesOf v (inside v outer)) ≡ findSome of-content-type (keys (constraintsRights v))
-    listed-answer o = ap (λ (x : Element). findSome of-content-type (typesOf v (inside v x))) o ∙ ap (findSome of-content-type) (sym (listed-types v))
+    listed-answer : {outer : Element} → outer ≡ root v → findSome of-content-type (keysIn Types v outer) ≡ findSome of-content-type (keys (constraintsRights v))
+    listed-answer o = ap (λ (x : Element). findSome of-content-type (keysIn Types v x)) o ∙ ap (findSome of-content-type) (sym (listed-types v))
 
     module _ {outer : Element} (o : outer ≡ root v) (i : ℕ)
-        (rest : findSome of-content-type (typesOf v (elements v i (outer .stop))) ≡ findSome of-content-type (typesOf v (inside v outer))) where
+        (rest : findSome of-content-type (keysFrom Types v i (outer .stop)) ≡ findSome of-content-type (keysIn Types v outer)) where
       pub none-picked : outer .stop ≤ i → pickedContent signer new v picked.Nothing ≡ findSome of-content-type (keys (constraintsRights v))
       unfolding pickedContent
-      none-picked l = answer-end of-content-type v i (outer .stop) rest l ∙ listed-answer o
+      none-picked l = answer-end of-content-type Types v i (outer .stop) rest l ∙ listed-answer o
 
-      module _ (l : i < outer .stop) {e : Element} (q : e ≡ elementAt v i (outer .stop)) {t : Key} (w : t ≡ typeIn v e) {r : Judged}
+      module _ (l : i < outer .stop) {e : Element} (q : e ≡ elementAt v i (outer .stop)) {t : Key} (w : t ≡ typeOf v e) {r : Judged}
           (h : judgedContent signer new t r ≡ of-content-type t) where
         pub picked-here : {x : Excess} → r ≡ judged.Outside x → pickedContent signer new v (picked.Entry e x) ≡ findSome of-content-type (keys (constraintsRights v))
-        unfolding judgedContent pickedContent
+        unfolding judgedContent pickedContent keyOf
         picked-here g =
             let a = rw (g, w) at h in
-            sym (answer-here of-content-type v i (outer .stop) rest l q (sym a)) ∙ listed-answer o
+            sym (answer-here of-content-type Types v i (outer .stop) rest l q (sym a)) ∙ listed-answer o
 
-        pub picked-later : r ≡ judged.Within → {j : ℕ} → j ≡ behind e (outer .stop)
-            → findSome of-content-type (typesOf v (elements v j (outer .stop))) ≡ findSome of-content-type (typesOf v (inside v outer))
-        unfolding judgedContent
-        picked-later g n = let a = rw (g, w) at h in answer-later of-content-type v i (outer .stop) rest l q (sym a) n
+        pub picked-later : r ≡ judged.Within → {j : ℕ} → j ≡ nextAt e (outer .stop)
+            → findSome of-content-type (keysFrom Types v j (outer .stop)) ≡ findSome of-content-type (keysIn Types v outer)
+        unfolding judgedContent keyOf
+        picked-later g n = let a = rw (g, w) at h in answer-later of-content-type Types v i (outer .stop) rest l q (sym a) n
 
 find-append : {A : Type 0} (f : Key → Option A) (a b : List Key) → findSome f (a ++ b) ≡ orElse (findSome f a) (findSome f b)
 unfolding findSome orElse
@@ -277,17 +306,17 @@ module _ (signer new : List ℕ) where
 
     pub by-nobody : {x : Excess} → r ≡ judged.Outside x → {m : ℕ} → m ≡ fresh oid (listedTypes (constraintsRights signer) (constraintsRights new))
         → contentOf signer new (answer.Outside (Nobody m) x) ≡ given
-    unfolding contentOf typeOf judgedContent orElse unlistedType
+    unfolding contentOf listedType judgedContent orElse unlistedType
     by-nobody e n = rw (in-turn, ← at-nobody, e, n)
 
     module _ (e : r ≡ judged.Within) {r₁ : Picked} (h₁ : pickedContent signer new new r₁ ≡ found new) where
       pub by-new : {k : Element} {x : Excess} → r₁ ≡ picked.Entry k x → contentOf signer new (answer.Outside (New k) x) ≡ given
-      unfolding contentOf typeOf judgedContent pickedContent orElse
+      unfolding contentOf listedType judgedContent pickedContent orElse
       by-new g = rw (in-turn, ← at-nobody, e, ← h₁, g)
 
       module _ (e₁ : r₁ ≡ picked.Nothing) {r₂ : Picked} (h₂ : pickedContent signer new signer r₂ ≡ found signer) where
         pub by-signer : {k : Element} {x : Excess} → r₂ ≡ picked.Entry k x → contentOf signer new (answer.Outside (Signer k) x) ≡ given
-        unfolding contentOf typeOf judgedContent pickedContent orElse
+        unfolding contentOf listedType judgedContent pickedContent orElse
         by-signer g = rw (in-turn, ← at-nobody, e, ← h₁, e₁, ← h₂, g)
 
         pub by-none : r₂ ≡ picked.Nothing → contentOf signer new answer.Within ≡ given

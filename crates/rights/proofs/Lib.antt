@@ -3,11 +3,11 @@ pub mod Lookup
 pub mod Outside
 pub mod Types
 pub mod Within
+pub mod Witness
+pub mod ValidKeys
 pub mod Examples
-pub mod Run
 pub mod Places
 pub mod Values
 pub mod Attributes
 pub mod Engine
 pub mod Verdict
-pub mod Apex

@@ -27,7 +27,7 @@ use Rattle.rights.proofs.Lookup.{orElse-none, orElse-some, findSome-non
 
 -- a value
 
-unlisted-some : (values : List Key) (w : Key) {v : Key} → unlisted values w ≡ some v → (w ≡ v) × (member w values ≡ false)
+pub unlisted-some : (values : List Key) (w : Key) {v : Key} → unlisted values w ≡ some v → (w ≡ v) × (member w values ≡ false)
 unfolding unlisted
 unlisted-some values w {v} e =
     by-test (member w values) (λ t. absurd (Option·none-ne-some v (rw (t, unlisted) at e))) (λ t. let h = rw (t, unlisted) at e in (cc, t))

@@ -11,7 +11,7 @@ use Rattle.rights.specs.declared.Answer.the-variants as answer
 use Rattle.rights.specs.Rights.{Content, authorises, Within}
 use Rattle.rights.specs.Decision.{outside}
 use Rattle.rights.specs.Constraints.{constraintsRights}
-use Rattle.rights.specs.Answer.{excessContent, typeOf, contentOf}
+use Rattle.rights.specs.Answer.{excessContent, listedType, contentOf}
 use Rattle.rights.proofs.Within.{outside-none, outside-some, not-both}
 
 module _ (signer new : List ℕ) where
@@ -20,7 +20,7 @@ module _ (signer new : List ℕ) where
   Promised r = contentOf signer new r ≡ outside (constraintsRights signer) (constraintsRights new)
 
   abbrev contentGiven : Lister → Excess → Content
-  contentGiven l x = excessContent signer new (typeOf signer new l) x
+  contentGiven l x = excessContent signer new (listedType signer new l) x
 
   pub given-outside :
       (l : Lister) (x : Excess) → Promised (answer.Outside l x)

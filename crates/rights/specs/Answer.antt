@@ -3,6 +3,7 @@ use Prim.Native.Nat.{ℕ}
 use mathlib.Core.List.{List}
 use mathlib.Core.Option.{Option, none, some}
 use Rattle.der.specs.Element.{whole}
+use Rattle.der.specs.Keys.{typeOf}
 use Rattle.rights.specs.declared.Excess.{Excess}
 use Rattle.rights.specs.declared.Excess.the-variants.{Carried, Sourced, Listed, Unlisted}
 use Rattle.rights.specs.declared.Judged.{Judged}
@@ -15,15 +16,14 @@ use Rattle.rights.specs.declared.Answer.{Answer}
 use Rattle.rights.specs.declared.Answer.the-variants as answer
 use Rattle.rights.specs.Rights.{Key, Content, source, carrier}
 use Rattle.rights.specs.Decision.{oid, integer, noPair, onePair}
-use Rattle.rights.specs.Places.{typeIn}
 
 module _ (signer new : List ℕ) where
   -- the content of a type that lies outside in this way
   unfoldable pub excessContent : Key → Excess → Content
   excessContent type Carried = noPair type carrier
   excessContent type Sourced = noPair type source
-  excessContent type (Listed a v) = onePair type (typeIn signer a, whole new v)
-  excessContent type (Unlisted a n) = onePair type (typeIn signer a, integer n)
+  excessContent type (Listed a v) = onePair type (typeOf signer a, whole new v)
+  excessContent type (Unlisted a n) = onePair type (typeOf signer a, integer n)
 
   -- of one type
   unfoldable pub judgedContent : Key → Judged → Option Content
@@ -33,14 +33,14 @@ module _ (signer new : List ℕ) where
   -- of the types that v lists
   unfoldable pub pickedContent : List ℕ → Picked → Option Content
   pickedContent v picked.Nothing = none
-  pickedContent v (picked.Entry e x) = some (excessContent (typeIn v e) x)
+  pickedContent v (picked.Entry e x) = some (excessContent (typeOf v e) x)
 
   -- the type, as listed by the new anchor, by the signer, or by nobody
-  unfoldable pub typeOf : Lister → Key
-  typeOf (New e) = typeIn new e
-  typeOf (Signer e) = typeIn signer e
-  typeOf (Nobody n) = oid n
+  unfoldable pub listedType : Lister → Key
+  listedType (New e) = typeOf new e
+  listedType (Signer e) = typeOf signer e
+  listedType (Nobody n) = oid n
 
   unfoldable pub contentOf : Answer → Option Content
   contentOf answer.Within = none
-  contentOf (answer.Outside lister x) = some (excessContent (typeOf lister) x)
+  contentOf (answer.Outside lister x) = some (excessContent (listedType lister) x)

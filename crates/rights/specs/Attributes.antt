@@ -5,21 +5,19 @@ use mathlib.Core.List.{List, map}
 use Rattle.octets.specs.Lists.{keep}
 use Rattle.octets.specs.Octets.{same}
 use Rattle.der.specs.declared.Element.{Element}
-use Rattle.der.specs.Element.{elementAt, whole, contents, inside, field}
+use Rattle.der.specs.Element.{elementAt, whole, inside, field}
+use Rattle.der.specs.Keys.{typeOf}
 use Rattle.syntax.specs.Types.{id-contentType, id-messageDigest}
 use Rattle.rights.specs.Rights.{Key}
 
--- attrType of an Attribute, and its first value
-abbrev pub attrType : List ℕ → Element → List ℕ
-attrType s e = contents s (field 0x06 s e)
-
+-- the first value of an Attribute
 abbrev pub attrValue : List ℕ → Element → Element
 attrValue s e = let values = field 0x31 s e in elementAt s (values .start) (values .stop)
 
 -- "the signed attributes other than content-type and message-digest"
 unfoldable pub weighed : List ℕ → Element → Bool
-weighed s e = not (same (attrType s e) id-contentType || same (attrType s e) id-messageDigest)
+weighed s e = not (same (typeOf s e) id-contentType || same (typeOf s e) id-messageDigest)
 
 -- each with its one value as a whole element
 unfoldable pub pairs : List ℕ → Element → List (Key × Key)
-pairs s attributes = map (λ e. (attrType s e, whole s (attrValue s e))) (keep (weighed s) (inside s attributes))
+pairs s attributes = map (λ e. (typeOf s e, whole s (attrValue s e))) (keep (weighed s) (inside s attributes))

@@ -5,4 +5,4 @@ pub mod Constraints
 pub mod Attributes
 pub mod Places
 pub mod Answer
-pub mod Apex
+pub mod Valid

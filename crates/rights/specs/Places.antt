@@ -1,43 +1,28 @@
 -- Rights read in place: which elements of the octets answer, and what stands there.
 use Prim.Native.Nat.{ℕ}
 use mathlib.Core.Bool.{Bool, true, false}
-use mathlib.Core.List.{List, [], _∷_, map}
+use mathlib.Core.List.{List}
 use mathlib.Core.Option.{Option, none, some}
-use Rattle.octets.specs.Octets.{same}
 use Rattle.der.specs.declared.Element.{Element}
-use Rattle.der.specs.Element.{root, contents, whole, inside, field}
-use Rattle.rights.specs.declared.Found.{Found}
-use Rattle.rights.specs.declared.Found.the-variants.{At, Nowhere}
+use Rattle.der.specs.declared.Compared.the-variants.{Types, Octets}
+use Rattle.der.specs.declared.Found.{Found}
+use Rattle.der.specs.declared.Found.the-variants.{At, Nowhere}
+use Rattle.der.specs.Element.{root, whole, inside, field}
+use Rattle.der.specs.Keys.{typeOf, keysIn, firstWith}
 use Rattle.rights.specs.Rights.{Key, Entry, anyContentType, meets}
 use Rattle.rights.specs.Constraints.{contentTypeConstraint}
-use Rattle.rights.specs.Attributes.{attrType, attrValue, weighed}
+use Rattle.rights.specs.Attributes.{attrValue, weighed}
 
--- where a run goes on behind an element: not at all behind one whose header breaks a rule
-unfoldable pub behind : Element → ℕ → ℕ
-behind e stop = elim (e .good) [ true ↦ e .stop | false ↦ stop ]
-
--- the OID in an element: contentType, attrType
-abbrev pub typeIn : List ℕ → Element → Key
-typeIn v e = contents v (field 0x06 v e)
-
--- the types of elements, and elements as values, each whole
-unfoldable pub typesOf : List ℕ → List Element → List Key
-typesOf v es = map (typeIn v) es
-
-unfoldable pub valuesOf : List ℕ → List Element → List Key
-valuesOf v es = map (whole v) es
-
--- the first of the elements that has the type
-unfoldable pub firstOfType : List ℕ → Key → List Element → Found
-firstOfType v type [] = Nowhere
-firstOfType v type (e ∷ es) = elim (same type (typeIn v e)) [ true ↦ At e | false ↦ firstOfType v type es ]
-
--- the constraint of an attribute type in an entry, and the values that it lists
+-- the constraint of an attribute type in an entry, and the values that it lists, each the whole element
 abbrev pub constraintFor : List ℕ → Element → Key → Found
-constraintFor v entry type = firstOfType v type (inside v (field 0x30 v entry))
+constraintFor v entry type = firstWith Types v type (inside v (field 0x30 v entry))
 
 abbrev pub valuesUnder : List ℕ → Element → List Key
-valuesUnder v constraint = valuesOf v (inside v (field 0x31 v constraint))
+valuesUnder v constraint = keysIn Octets v (field 0x31 v constraint)
+
+-- the entry of a type
+abbrev pub entryFor : List ℕ → Key → Found
+entryFor v type = firstWith Types v type (inside v (root v))
 
 -- the one, else the other
 unfoldable pub orThen : Found → Found → Found
@@ -46,11 +31,11 @@ orThen Nowhere f = f
 
 -- the anyContentType entry
 unfoldable pub anyEntry : List ℕ → Found
-anyEntry v = firstOfType v anyContentType (inside v (root v))
+anyEntry v = entryFor v anyContentType
 
 -- 01, Rights: "The governing entry is the one for the content's type, else the anyContentType entry, else none."
 unfoldable pub governingEntry : List ℕ → Key → Found
-governingEntry v type = orThen (firstOfType v type (inside v (root v))) (anyEntry v)
+governingEntry v type = orThen (entryFor v type) (anyEntry v)
 
 -- an entry
 abbrev pub entryOf : List ℕ → Element → Entry
@@ -64,4 +49,4 @@ module _ {A : Type 0} where
 
 -- one signed attribute against an entry: it is weighed only if it is neither content-type nor message-digest
 unfoldable pub attributeMeets : Entry → List ℕ → Element → Bool
-attributeMeets entry s e = elim (weighed s e) [ true ↦ meets (entry .constraints) (attrType s e, whole s (attrValue s e)) | false ↦ true ]
+attributeMeets entry s e = elim (weighed s e) [ true ↦ meets (entry .constraints) (typeOf s e, whole s (attrValue s e)) | false ↦ true ]

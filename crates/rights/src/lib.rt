@@ -1,5 +1,5 @@
 // Rights: what an anchor's content constraints authorise (RFC 6010, 01 "Rights"). They are read in place and never copied: the octets of a
-// CMSContentConstraints value stand for the rights that they give. An identity anchor has no octets, and the apex has those of `everything`.
+// CMSContentConstraints value stand for the rights that they give. An identity anchor has no octets.
 ghost use mathlib.Core.Path.{_≡_};
 ghost use mathlib.Core.Bool.{not, _&&_};
 ghost use mathlib.Core.Option.{Option·map};
@@ -26,26 +26,19 @@ ghost use Rattle.rights.specs.Decision.{
 ghost use Rattle.rights.specs.Constraints.{constraintsRights};
 ghost use Rattle.rights.specs.Attributes.{attrValue, weighed, pairs};
 ghost use Rattle.rights.specs.Places.{
-  behind as behindOf,
-  typeIn,
-  firstOfType,
   constraintFor,
   valuesUnder,
+  entryFor,
   anyEntry,
   governingEntry,
   entryOf,
   holding,
   attributeMeets,
 };
-ghost use Rattle.rights.specs.Apex.{apexConstraints};
 ghost use Rattle.rights.specs.Answer.{judgedContent, pickedContent, contentOf};
+use der::Compared;
 use der::Element;
-
-// An element that was looked for. (One whose header breaks a rule is an element of a run too, so `good` could not say that there is none.)
-pub enum Found {
-    At(Element),
-    Nowhere,
-}
+use der::Found;
 
 // How a content of one type lies outside the signer's rights.
 pub enum Excess {
@@ -99,41 +92,6 @@ pub const ANY_CONTENT_TYPE: [u8; 11] = [
     0x00,
 ];
 
-// The constraints that the apex stands for: DER of one entry, for anyContentType.
-pub fn everything() -> [u8; 17]
-    ensures { λ r. ⌜ r ≡ apexConstraints ⌝ }
-{
-    [
-        0x30,
-        0x0F,
-        0x30,
-        0x0D,
-        0x06,
-        0x0B,
-        0x2A,
-        0x86,
-        0x48,
-        0x86,
-        0xF7,
-        0x0D,
-        0x01,
-        0x09,
-        0x10,
-        0x01,
-        0x00,
-    ]
-}
-
-// Where the run that ends at stop goes on behind e.
-fn behind(e: Element, stop: usize) -> usize
-    ensures { λ r. ⌜ r ≡ behindOf e stop ⌝ }
-{
-    if e.good {
-        return e.stop;
-    }
-    stop
-}
-
 // The element that holds the entries.
 fn entries(v: &[u8]) -> Element
     ensures { λ r. ⌜ r ≡ root (now (v .entry)) ⌝ }
@@ -141,42 +99,26 @@ fn entries(v: &[u8]) -> Element
     der::element_at(v, 0, v.len())
 }
 
-// The OID in an element.
-fn type_in(v: &[u8], e: Element) -> &[u8]
-    ensures { λ r. ⌜ now r ≡ typeIn (now (v .entry)) e ⌝ }
+// The entry of a type.
+fn entry_for(v: &[u8], key: &[u8]) -> Found
+    ensures { λ r. ⌜ r ≡ entryFor (now (v .entry)) (now (key .entry)) ⌝ }
 {
-    der::contents(v, der::field(v, e, 6))
-}
-
-// The first element inside another that has the type: an entry among entries, an attribute constraint among those of an entry.
-fn first_of_type(v: &[u8], outer: Element, key: &[u8]) -> Found
-    ensures { λ r. ⌜ r ≡ firstOfType (now (v .entry)) (now (key .entry)) (inside (now (v .entry)) outer) ⌝ }
-{
-    let stop = outer.stop;
-    let mut i = outer.start;
-    while i < stop {
-        let e = der::element_at(v, i, stop);
-        if octets::equal(key, type_in(v, e)) {
-            return Found::At(e);
-        }
-        i = behind(e, stop);
-    }
-    Found::Nowhere
+    let list = entries(v);
+    der::first_with(v, list.start, list.stop, Compared::Types, key)
 }
 
 // The anyContentType entry.
 fn any_entry(v: &[u8]) -> Found
     ensures { λ r. ⌜ r ≡ anyEntry (now (v .entry)) ⌝ }
 {
-    let any = ANY_CONTENT_TYPE;
-    first_of_type(v, entries(v), &any)
+    entry_for(v, &ANY_CONTENT_TYPE)
 }
 
 // 01: the entry that governs a type is the one for it, else the anyContentType entry.
-pub fn governing(v: &[u8], key: &[u8]) -> Found
+fn governing(v: &[u8], key: &[u8]) -> Found
     ensures { λ r. ⌜ r ≡ governingEntry (now (v .entry)) (now (key .entry)) ⌝ }
 {
-    if let Found::At(e) = first_of_type(v, entries(v), key) {
+    if let Found::At(e) = entry_for(v, key) {
         return Found::At(e);
     }
     any_entry(v)
@@ -186,7 +128,7 @@ pub fn governing(v: &[u8], key: &[u8]) -> Found
 fn is_source(v: &[u8], e: Element) -> bool
     ensures { λ r. ⌜ r ≡ entryOf (now (v .entry)) e .canSource ⌝ }
 {
-    let f = der::field(v, e, 10);
+    let f = der::field(v, e, 0x0A);
     !f.good
 }
 
@@ -194,7 +136,8 @@ fn is_source(v: &[u8], e: Element) -> bool
 fn constraint_for(v: &[u8], entry: Element, key: &[u8]) -> Found
     ensures { λ r. ⌜ r ≡ constraintFor (now (v .entry)) entry (now (key .entry)) ⌝ }
 {
-    first_of_type(v, der::field(v, entry, 0x30), key)
+    let list = der::field(v, entry, 0x30);
+    der::first_with(v, list.start, list.stop, Compared::Types, key)
 }
 
 // Whether an attribute constraint lists the value: one that is equal in all its octets.
@@ -202,16 +145,7 @@ fn lists(v: &[u8], constraint: Element, value: &[u8]) -> bool
     ensures { λ r. ⌜ r ≡ member (now (value .entry)) (valuesUnder (now (v .entry)) constraint) ⌝ }
 {
     let values = der::field(v, constraint, 0x31);
-    let stop = values.stop;
-    let mut i = values.start;
-    while i < stop {
-        let e = der::element_at(v, i, stop);
-        if octets::equal(value, der::whole(v, e)) {
-            return true;
-        }
-        i = behind(e, stop);
-    }
-    false
+    der::occurs(v, values.start, values.stop, Compared::Octets, value)
 }
 
 // A signed attribute is weighed unless it is content-type or message-digest.
@@ -219,11 +153,11 @@ fn is_weighed(s: &[u8], e: Element) -> bool
     ensures { λ r. ⌜ r ≡ weighed (now (s .entry)) e ⌝ }
 {
     let a = syntax::ID_CONTENT_TYPE;
-    if octets::equal(type_in(s, e), &a) {
+    if octets::equal(der::type_of(s, e), &a) {
         return false;
     }
     let b = syntax::ID_MESSAGE_DIGEST;
-    !octets::equal(type_in(s, e), &b)
+    !octets::equal(der::type_of(s, e), &b)
 }
 
 // The first value of a signed attribute.
@@ -241,7 +175,7 @@ fn attribute_meets(v: &[u8], entry: Element, s: &[u8], e: Element) -> bool
     if !is_weighed(s, e) {
         return true;
     }
-    let Found::At(a) = constraint_for(v, entry, type_in(s, e)) else {
+    let Found::At(a) = constraint_for(v, entry, der::type_of(s, e)) else {
         return true; // any value, where the type is not constrained
     };
     lists(v, a, value_in(s, e))
@@ -259,7 +193,7 @@ fn attributes_meet(v: &[u8], entry: Element, s: &[u8], attributes: Element) -> b
         if !attribute_meets(v, entry, s, e) {
             return false;
         }
-        i = behind(e, stop);
+        i = der::next(e, stop);
     }
     true
 }
@@ -308,7 +242,7 @@ fn unlisted_value(signer: &[u8], a: Element, new: &[u8], b: Element) -> Found
         if !lists(signer, a, der::whole(new, e)) {
             return Found::At(e);
         }
-        i = behind(e, stop);
+        i = der::next(e, stop);
     }
     Found::Nowhere
 }
@@ -332,10 +266,8 @@ fn fresh_value(v: &[u8], constraint: Element) -> usize
 fn lists_type(v: &[u8], key: &[u8]) -> bool
     ensures { λ r. ⌜ r ≡ member (now (key .entry)) (keys (constraintsRights (now (v .entry)))) ⌝ }
 {
-    if let Found::At(_) = first_of_type(v, entries(v), key) {
-        return true;
-    }
-    false
+    let list = entries(v);
+    der::occurs(v, list.start, list.stop, Compared::Types, key)
 }
 
 // Whether the new anchor or the signer lists the type.
@@ -404,10 +336,10 @@ fn pair_outside(signer: &[u8], s: Element, new: &[u8], n: Element) -> Judged
     let mut i = outer.start;
     while i < stop {
         let e = der::element_at(signer, i, stop);
-        if let Judged::Outside(x) = attribute_outside(signer, s, new, n, type_in(signer, e)) {
+        if let Judged::Outside(x) = attribute_outside(signer, s, new, n, der::type_of(signer, e)) {
             return Judged::Outside(x);
         }
-        i = behind(e, stop);
+        i = der::next(e, stop);
     }
     Judged::Within
 }
@@ -464,17 +396,17 @@ fn among(signer: &[u8], new: &[u8], v: &[u8]) -> Picked
     let mut i = outer.start;
     while i < stop {
         let e = der::element_at(v, i, stop);
-        if let Judged::Outside(x) = type_outside(signer, new, type_in(v, e)) {
+        if let Judged::Outside(x) = type_outside(signer, new, der::type_of(v, e)) {
             return Picked::Entry(e, x);
         }
-        i = behind(e, stop);
+        i = der::next(e, stop);
     }
     Picked::Nothing
 }
 
 // 01: the new anchor is within the signer; if not, a content that it authorises and the signer does not. A type that neither lists comes first, then those
 // that the new anchor lists, then the signer's.
-pub fn content_outside(signer: &[u8], new: &[u8]) -> Answer
+fn content_outside(signer: &[u8], new: &[u8]) -> Answer
     ensures { λ r.
         ⌜ contentOf (now (signer .entry)) (now (new .entry)) r ≡ outsideOf
         (constraintsRights (now (signer .entry)))

@@ -7,3 +7,4 @@ pub mod Places
 pub mod Walk
 pub mod Taken
 pub mod Parts
+pub mod Standing

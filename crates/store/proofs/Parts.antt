@@ -1,12 +1,12 @@
 -- The parts of an image (specs/Parts) are those of its store.
-use Prim.Native.Nat.{ℕ, zero, suc, _+_, _-_, _<_}
+use Prim.Native.Nat.{ℕ, zero, suc, _+_, _-_, _≤_, _<_}
 use native.Mathlib.Omega.{arith}
 use mathlib.Core.Bool.{Bool, true, false, and-eq-true-iff}
-use mathlib.Core.List.{List, [], _∷_, map, flatMap, append-nil, map-map}
+use mathlib.Core.List.{List, [], _∷_, _++_, map, flatMap, append-assoc, map-map}
 use mathlib.Core.Option.{some}
 use mathlib.Core.Path.{_≡_, refl, sym, ap, ap₂, _∙_}
-use lib.ListN.{length, take, drop, getD, length-map}
-use lib.Seq.{drop-drop, getD-drop}
+use lib.ListN.{length, take, drop, getD, length-map, length-append, length-take, length-drop}
+use lib.Seq.{drop-drop, drop-at, take-at}
 use lib.Dec.{leb}
 use borrow.Author.Tests.{leb-true}
 use Rattle.octets.specs.Limits.{maxAnchors}
@@ -17,22 +17,17 @@ use Rattle.octets.proofs.Lists.{by-test}
 use Rattle.octets.proofs.Number.{octets-drop}
 use Rattle.store.specs.declared.Position.{Position}
 use Rattle.store.specs.declared.Position.the-variants.{At, Nothing}
-use Rattle.store.specs.Store.{Device, Anchor, Store, anchors, keyOf, identifierOf, identifiers}
+use Rattle.store.specs.Store.{Device, Anchor, Store, anchors, identifierOf, identifiers}
 use Rattle.store.specs.Image.{found, readSized, readTimes, readDevice, readAnchor, readDeviceSection, readAnchorSection, readCommunitySection}
 use Rattle.store.specs.Image.{readStore, decode, encodeName}
 use Rattle.store.specs.Records.{recordsFrom, recordsOf}
 use Rattle.store.specs.Parts.{hwTypeIn, serialPlace, serialIn, anchorPlace, anchorCount, firstRecord, recordEnd, recordAt, recordPlace}
-use Rattle.store.specs.Parts.{infoIn, identifierIn, publicKeyIn, numberIn, anchorIn, communityPlace, communityCount, communityOctets, namesFrom, communitiesOf, firstFrom}
+use Rattle.store.specs.Parts.{identifierIn, anchorIn, communityPlace, communityCount, communityOctets, namesFrom, namesSize, communitiesOf, firstFrom}
 use Rattle.store.proofs.Readers.{same-found, as-found, granted, passed, passes}
 use Rattle.store.proofs.Formats.{listed, communitySection}
 use Rattle.store.proofs.RoundTrip.{alone-found}
-use Rattle.store.proofs.Walk.{records-turn, records-of, first-here, first-later}
+use Rattle.store.proofs.Walk.{records-turn, records-of, first-octet, names-cut, first-here, first-later}
 use Rattle.store.proofs.Taken.{octet-taken, name-taken, names-taken, Anchors, anchors-taken}
-
-octet-at : (s : List ℕ) (p : ℕ) → octet (drop p s) 0 ≡ octet s p
-octet-at s p =
-    let z : p + 0 ≡ p = omega arith in
-    getD-drop p s 0 0 ∙ ap (octet s) z
 
 -- what the readers found at a place
 
@@ -43,12 +38,12 @@ name-place most s p o t e =
     let n = octet s p in
     let z : n ≡ p + 1 + n - (p + 1) = omega arith in
     let j : p + (1 + n) ≡ p + 1 + n = omega arith in (
-      h .0 ∙ ap₂ take (octet-at s p ∙ z) (drop-drop 1 p s),
-      h .1 ∙ ap (λ (m : ℕ). drop (1 + m) (drop p s)) (octet-at s p) ∙ drop-drop (1 + n) p s ∙ ap (λ (m : ℕ). drop m s) j,
+      h .0 ∙ ap₂ take (first-octet s p ∙ z) (drop-drop 1 p s),
+      h .1 ∙ ap (λ (m : ℕ). drop (1 + m) (drop p s)) (first-octet s p) ∙ drop-drop (1 + n) p s ∙ ap (λ (m : ℕ). drop m s) j,
     )
 
 count-place : (s : List ℕ) (p n : ℕ) (t : List ℕ) → n ≡ octet (drop p s) 0 → t ≡ drop 1 (drop p s) → (n ≡ octet s p) × (t ≡ drop (p + 1) s)
-count-place s p n t e f = (e ∙ octet-at s p, f ∙ drop-drop 1 p s)
+count-place s p n t e f = (e ∙ first-octet s p, f ∙ drop-drop 1 p s)
 
 record DevicePlace (image : List ℕ) (d : Device) (t : List ℕ) : Type 0 where
   hwType : hwTypeIn image ≡ d .hwType
@@ -88,7 +83,7 @@ anchors-place s p b t e =
     (anchors-taken s (octet s p) (p + 1) _ _ (ap₂ (λ (m : ℕ) (r : List ℕ). readTimes m readAnchor r) n (sym (c .1)) ∙ whole))
 
 communities-place : (s : List ℕ) (p : ℕ) (l : List (List ℕ)) (t : List ℕ) → readCommunitySection (drop p s) ≡ found l t
-    → l ≡ namesFrom (octet s p) (drop (p + 1) s)
+    → namesFrom (octet s p) (take (namesSize (octet s p) (drop (p + 1) s)) (drop (p + 1) s)) ≡ l
 unfolding readCommunitySection
 communities-place s p l t e =
     let u = passed _ _ _ e in
@@ -97,17 +92,32 @@ communities-place s p l t e =
     let h = granted _ _ _ _ (v .second) in
     let o = octet-taken (drop p s) (u .value) (u .behind) (u .first) in
     let c = count-place s p (u .value) (u .behind) (o .0) (o .1) in
-    sym (same-found _ _ _ _ (h .1) .0)
-    ∙ names-taken (u .value) (u .behind) (v .value) (v .behind) (g .1)
-    ∙ ap₂ namesFrom (c .0) (c .1)
+    names-cut (octet s p) (drop (p + 1) s)
+    ∙ sym (ap₂ namesFrom (c .0) (c .1))
+    ∙ sym (names-taken (u .value) (u .behind) (v .value) (v .behind) (g .1))
+    ∙ same-found _ _ _ _ (h .1) .0
 
--- the communities' octets, where nothing is behind them
-communities-octets : (s : List ℕ) (p : ℕ) (l : List (List ℕ)) → readCommunitySection (drop p s) ≡ found l [] → Octets s
-    → drop (p + 1) s ≡ flatMap encodeName l
-communities-octets s p l e o =
-    sym (drop-drop 1 p s)
-    ∙ sym (ap (drop 1) (communitySection .was (drop p s) l [] e .back (octets-drop s p o)))
-    ∙ append-nil (flatMap encodeName l)
+-- the communities' octets end where the last one does
+pub sizes-are : (l : List (List ℕ)) (t : List ℕ) → namesSize (length l) (flatMap encodeName l ++ t) ≡ length (flatMap encodeName l)
+unfolding namesSize flatMap
+sizes-are [] t = refl
+sizes-are (c ∷ l) t =
+    let r = flatMap encodeName l in
+    let z : 1 + length c ≡ suc (length c) = omega arith in
+    let d : drop (1 + length c) (encodeName c ++ r ++ t) ≡ r ++ t =
+    ap (λ (k : ℕ). drop k (encodeName c ++ r ++ t)) z ∙ ap (drop (length c)) (append-assoc c r t) ∙ drop-at c (r ++ t) (length c) refl
+    in
+    let n = ap (namesSize (length l)) d ∙ sizes-are l t in
+    omega (arith, n, length-append c r)
+
+communities-octets : (s : List ℕ) (p : ℕ) (l : List (List ℕ)) (t : List ℕ) → readCommunitySection (drop p s) ≡ found l t → Octets s
+    → take (namesSize (octet s p) (drop (p + 1) s)) (drop (p + 1) s) ≡ flatMap encodeName l
+communities-octets s p l t e o =
+    let w = communitySection .was (drop p s) l t e .back (octets-drop s p o) in
+    let r = flatMap encodeName l in
+    let n : octet s p ≡ length l = sym (first-octet s p) ∙ sym (ap (λ (b : List ℕ). octet b 0) w) in
+    let b : drop (p + 1) s ≡ r ++ t = sym (drop-drop 1 p s) ∙ sym (ap (drop 1) w) in
+    ap₂ (λ (m : ℕ) (b : List ℕ). take (namesSize m b) b) n b ∙ take-at r t (namesSize (length l) (r ++ t)) (sym (sizes-are l t))
 
 -- An image that breaks no rule, and its store
 
@@ -136,8 +146,8 @@ parts image σ e =
       hwType = d .hwType;
       serial = d .serial;
       anchors-are = ap (map anchorIn) (records-of image) ∙ a .are;
-      communities = sym (communities-place image (communityPlace image) (r .value) [] c);
-      octets = communities-octets image (communityPlace image) (r .value) c;
+      communities = communities-place image (communityPlace image) (r .value) [] c;
+      octets = communities-octets image (communityPlace image) (r .value) [] c;
     })
 
 -- whatever is asked of each record is asked of its anchor: the TrustAnchorInfos, numbers, identifiers and public keys of an image are those of its store
@@ -145,17 +155,8 @@ pub of-anchors : {B : Type 0} (f : Anchor → B) (image : List ℕ) (σ : Store)
 of-anchors f image σ e = sym (map-map f anchorIn (recordsOf image)) ∙ ap (map f) (parts image σ e .anchors-are)
 
 module _ (image : List ℕ) (σ : Store) (e : decode image ≡ some σ) where
-  pub infos-of : map infoIn (recordsOf image) ≡ map (λ a. a .info) (anchors σ)
-  infos-of = of-anchors (λ a. a .info) image σ e
-
-  pub numbers-of : map numberIn (recordsOf image) ≡ map (λ a. a .number) (anchors σ)
-  numbers-of = of-anchors (λ a. a .number) image σ e
-
   pub identifiers-of : map identifierIn (recordsOf image) ≡ identifiers σ
   identifiers-of = of-anchors identifierOf image σ e
-
-  pub keys-of : map publicKeyIn (recordsOf image) ≡ map keyOf (anchors σ)
-  keys-of = of-anchors keyOf image σ e
 
 -- counts
 
@@ -203,3 +204,9 @@ module _ {A : Type 0} (p : A → Bool) where
       by-test (p x)
       (λ e. ap isAt (first-here p i x l e) ∙ rw e)
       (λ e. ap isAt (first-later p i x l e) ∙ first-any (suc i) l ∙ rw e)
+
+pub communities-short : (image : List ℕ) → length (communityOctets image) ≤ length image
+unfolding communityOctets
+communities-short image =
+    let names = drop (communityPlace image + 1) image in
+    omega (arith, length-take (namesSize (communityCount image) names) names, length-drop (communityPlace image + 1) image)

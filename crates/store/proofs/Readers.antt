@@ -69,19 +69,7 @@ module _ {A B : Type 0} where
   unfolding passOn
   passes-none o f e = rw e
 
-module _ {A : Type 0} where
-  -- a reader that goes on with nothing
-  pub passes-on : (o : Option (A × List ℕ)) → passOn o found ≡ o
-  unfolding passOn
-  passes-on none = refl
-  passes-on (some p) = refl
-
 -- Octet strings put together
-
-pub octets-append : (a b : List ℕ) → Octets a → Octets b → Octets (a ++ b)
-octets-append [] b p q i = q i
-octets-append (x ∷ a) b p q zero = p 0
-octets-append (x ∷ a) b p q (suc i) = octets-append a b (λ j. p (suc j)) q i
 
 -- the front and the rest of an octet string
 pub octets-front : (a b s : List ℕ) → a ++ b ≡ s → Octets s → Octets a
@@ -179,9 +167,6 @@ sized-was k most s o rest e =
       good = rw (t .0) (g .0);
       back = λ v. in-turn (bigEndian k (length o)) o rest (p .behind) s (rw (t .0) (number-found k s (p .value) (p .behind) (p .first) v)) (λ _. t .1) v;
     }
-
-pub sized : (k most : ℕ) → most < 256 ^ k → Format (readSized k most) (writeSized k) (sizeOk most)
-sized k most h = record { reads = sized-read k most h; was = sized-was k most }
 
 -- so many in turn, each of one format
 

@@ -1,28 +1,24 @@
--- How long an image is (01, The store image: "The largest image is 33,717 octets"), and that it is of octets where the parts of its store are.
-use Prim.Native.Nat.{ℕ, zero, suc, _+_, _*_, _/_, _%_, _≤_, _<_}
-use native.Mathlib.Nat.{mul-suc, mod-lt}
+-- How long an image is (01, The store image: "The largest image is 33,717 octets").
+use Prim.Native.Nat.{ℕ, suc, _+_, _*_, _≤_}
+use native.Mathlib.Nat.{mul-suc}
 use native.Mathlib.Omega.{arith}
 use mathlib.Core.Bool.{Bool, true, and-eq-true-iff}
 use mathlib.Core.List.{List, [], _∷_, _++_, flatMap}
 use mathlib.Core.Option.{Option, none, some, Option·elim}
-use mathlib.Core.Path.{_≡_, refl, ap}
+use mathlib.Core.Path.{_≡_, ap}
 use lib.ListN.{length, length-append}
-use lib.Dec.{leb, lit<}
+use lib.Dec.{leb}
 use borrow.Author.Tests.{leb-true}
 use Rattle.octets.specs.Limits.{maxName, maxAnchorOctets, maxNumber, imageRoom}
 use Rattle.octets.specs.Lists.{allOf}
-use Rattle.octets.specs.Octets.{Octets}
 use Rattle.octets.specs.Number.{bigEndian}
 use Rattle.octets.proofs.Number.{length-bigEndian}
 use Rattle.der.specs.Contents.{oidOk}
-use Rattle.syntax.proofs.Each.{Every}
 use Rattle.anchor.specs.Judge.{storable}
 use Rattle.store.specs.Store.{Device, Anchor, Store, anchors}
-use Rattle.store.specs.Image.{encodeName, encodeNumber, encodeAnchor, encodeSection, encodeDevice, encode, decode, nameOk, anchorOk, wellFormed}
-use Rattle.store.proofs.Readers.{octets-append, octets-front, octets-behind, writeSized}
+use Rattle.store.specs.Image.{encodeName, encodeNumber, encodeAnchor, encodeSection, encodeDevice, encode, nameOk, anchorOk, wellFormed}
 use Rattle.store.proofs.Storable.{storable-size}
 use Rattle.store.proofs.Formats.{writeDevice, communityOk, rules}
-use Rattle.store.proofs.RoundTrip.{encode-decode}
 
 -- what the tests say of sizes
 
@@ -96,104 +92,3 @@ encode-length σ g =
       la,
       lc,
     )
-
--- Octets
-
-pub octets-cons : (n : ℕ) (s : List ℕ) → n < 256 → Octets s → Octets (n ∷ s)
-octets-cons n s h o zero = h
-octets-cons n s h o (suc i) = o i
-
-pub octets-bigEndian : (k n : ℕ) → Octets (bigEndian k n)
-unfolding bigEndian
-octets-bigEndian zero n = λ i. lit< tt
-octets-bigEndian (suc k) n =
-    octets-append (bigEndian k (n / 256)) (n % 256 ∷ []) (octets-bigEndian k (n / 256)) (octets-cons (n % 256) [] (mod-lt n (lit< tt)) (λ i. lit< tt))
-
-module _ {A : Type 0} (w : A → List ℕ) (P : A → Type 0) where
-  pub octets-flatMap : ((x : A) → P x → Octets (w x)) → (l : List A) → Every P l → Octets (flatMap w l)
-  unfolding flatMap
-  octets-flatMap f [] h = λ i. lit< tt
-  octets-flatMap f (x ∷ l) h = octets-append (w x) (flatMap w l) (f x (h .0)) (octets-flatMap f l (h .1))
-
-  pub octets-each : ((x : A) → Octets (w x) → P x) → (l : List A) → Octets (flatMap w l) → Every P l
-  unfolding flatMap
-  octets-each f [] o = tt
-  octets-each f (x ∷ l) o =
-      (f x (octets-front (w x) (flatMap w l) _ refl o), octets-each f l (octets-behind (w x) (flatMap w l) _ refl o))
-
-  pub octets-section : ((x : A) → P x → Octets (w x)) → (l : List A) → length l < 256 → Every P l → Octets (encodeSection w l)
-  octets-section f l h o = octets-cons (length l) (flatMap w l) h (octets-flatMap f l o)
-
-  pub octets-in-section : ((x : A) → Octets (w x) → P x) → (l : List A) → Octets (encodeSection w l) → Every P l
-  octets-in-section f l o = octets-each f l (λ i. o (suc i))
-
-pub octets-encodeNumber : (o : Option ℕ) → Octets (encodeNumber o)
-unfolding encodeNumber
-octets-encodeNumber none = octets-cons 0 (bigEndian 8 0) (lit< tt) (octets-bigEndian 8 0)
-octets-encodeNumber (some n) = octets-cons 1 (bigEndian 8 n) (lit< tt) (octets-bigEndian 8 n)
-
-pub octets-encodeAnchor : (a : Anchor) → Octets (a .info) → Octets (encodeAnchor a)
-unfolding encodeAnchor
-octets-encodeAnchor a o =
-    octets-append (encodeNumber (a .number)) (writeSized 2 (a .info)) (octets-encodeNumber (a .number))
-    (octets-append (bigEndian 2 (length (a .info))) (a .info) (octets-bigEndian 2 (length (a .info))) o)
-
-octets-info : (a : Anchor) → Octets (encodeAnchor a) → Octets (a .info)
-unfolding encodeAnchor
-octets-info a o =
-    octets-behind (bigEndian 2 (length (a .info))) (a .info) _ refl (octets-behind (encodeNumber (a .number)) (writeSized 2 (a .info)) _ refl o)
-
-octets-name : (c : List ℕ) → nameOk c ≡ true → Octets c → Octets (encodeName c)
-octets-name c g o = octets-cons (length c) c (omega (arith, name-size c g .1)) o
-
--- a property of every member, with a test that every member passes
-all-every : {A : Type 0} (ok : A → Bool) (P : A → Type 0) (l : List A) → allOf ok l ≡ true → Every P l → Every (λ x. (ok x ≡ true) × P x) l
-unfolding allOf
-all-every ok P [] g h = tt
-all-every ok P (x ∷ l) g h =
-    let k = and-eq-true-iff (ok x) (allOf ok l) .0 g in
-    ((k .0, h .0), all-every ok P l (k .1) (h .1))
-
--- the parts of a store are octets
-pub record OctetsIn (σ : Store) : Type 0 where
-  pub hwType : Octets (σ .device .hwType)
-  pub serial : Octets (σ .device .serial)
-  pub infos : Every (λ a. Octets (a .info)) (anchors σ)
-  pub communities : Every Octets (σ .communities)
-
-abbrev deviceOctets : Device → Type 0
-deviceOctets d = Octets (encodeName (d .hwType)) × Octets (encodeName (d .serial))
-
-pub octets-encode : (σ : Store) → wellFormed σ ≡ true → OctetsIn σ → Octets (encode σ)
-unfolding encode encodeDevice
-octets-encode σ g o =
-    let p = rules σ g in
-    octets-append (writeDevice (σ .device)) (encodeSection encodeAnchor (anchors σ) ++ encodeSection encodeName (σ .communities))
-    (octets-section encodeDevice deviceOctets (λ d h. octets-append (encodeName (d .hwType)) (encodeName (d .serial)) (h .0) (h .1)) (σ .device ∷ [])
-    (lit< tt)
-    ((octets-name (σ .device .hwType) (p .hwType) (o .hwType), octets-name (σ .device .serial) (p .serial) (o .serial)), tt))
-    (octets-append (encodeSection encodeAnchor (anchors σ)) (encodeSection encodeName (σ .communities))
-    (octets-section encodeAnchor (λ a. Octets (a .info)) octets-encodeAnchor (anchors σ) (omega arith) (o .infos))
-    (octets-section encodeName (λ c. (communityOk c ≡ true) × Octets c) (λ c h. octets-name c (community-name c (h .0)) (h .1)) (σ .communities) (omega arith)
-    (all-every communityOk Octets (σ .communities) (p .each-community) (o .communities))))
-
-pub octets-in : (σ : Store) → Octets (encode σ) → OctetsIn σ
-unfolding encode encodeDevice
-octets-in σ o =
-    let sa = encodeSection encodeAnchor (anchors σ) in
-    let sc = encodeSection encodeName (σ .communities) in
-    let behind = octets-behind (writeDevice (σ .device)) (sa ++ sc) _ refl o in
-    let split : (d : Device) → Octets (encodeDevice d) → deviceOctets d =
-    λ d h.
-    (octets-front (encodeName (d .hwType)) (encodeName (d .serial)) _ refl h, octets-behind (encodeName (d .hwType)) (encodeName (d .serial)) _ refl h)
-    in
-    let d = octets-in-section encodeDevice deviceOctets split (σ .device ∷ []) (octets-front (writeDevice (σ .device)) (sa ++ sc) _ refl o) in
-    record {
-      hwType = λ i. d .0 .0 (suc i);
-      serial = λ i. d .0 .1 (suc i);
-      infos = octets-in-section encodeAnchor (λ a. Octets (a .info)) octets-info (anchors σ) (octets-front sa sc _ refl behind);
-      communities = octets-in-section encodeName Octets (λ c h i. h (suc i)) (σ .communities) (octets-behind sa sc _ refl behind);
-    }
-
-pub octets-decode : (image : List ℕ) (σ : Store) → Octets image → decode image ≡ some σ → OctetsIn σ
-octets-decode image σ o e = octets-in σ (rw (encode-decode image σ o e) o)

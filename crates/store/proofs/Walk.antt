@@ -7,7 +7,7 @@ use mathlib.Core.List.{List, [], _∷_, map}
 use mathlib.Core.Option.{none, some}
 use mathlib.Core.Path.{_≡_, refl, sym, ap, ap₂, _∙_}
 use lib.ListN.{length, take, drop, length-drop, drop-of-length-le}
-use lib.Seq.{take-all, take-nil, drop-drop, getD-drop}
+use lib.Seq.{take-all, take-nil, take-take, drop-drop, getD-drop}
 use lib.Dec.{leb, eqb}
 use borrow.Author.Tests.{leb-true, leb-false, eq-eqb, ne-eqb}
 use Rattle.octets.specs.Lists.{anyOf}
@@ -21,7 +21,7 @@ use Rattle.store.specs.Image.{presentNumber}
 use Rattle.store.specs.Records.{recordsFrom, anchorSection, recordsOf}
 use Rattle.store.specs.Signer.{signerFrom}
 use Rattle.store.specs.Parts.{anchorCount, firstRecord, recordEnd, recordAt, recordPlace, infoIn, identifierIn, numberIn}
-use Rattle.store.specs.Parts.{nameEnd, nameAt, namesFrom, firstFrom, infosFrom}
+use Rattle.store.specs.Parts.{nameEnd, nameAt, namesFrom, namesSize, firstFrom, infosFrom}
 
 -- k octets at place p, and what is behind them
 
@@ -48,6 +48,12 @@ module _ (s : List ℕ) (p k : ℕ) where
       (λ t.
       let h = leb-false (p + k) (length s) t in
       drop-of-length-le s {i = p + k} (omega arith) ∙ sym (drop-of-length-le s {i = min (p + k) (length s)} (omega arith)))
+
+-- the first octet from a place on
+pub first-octet : (s : List ℕ) (p : ℕ) → octet (drop p s) 0 ≡ octet s p
+first-octet s p =
+    let z : p + 0 ≡ p = omega arith in
+    getD-drop p s 0 0 ∙ ap (octet s) z
 
 pub drop-take : (k n : ℕ) (l : List ℕ) → drop k (take n l) ≡ take (n - k) (drop k l)
 drop-take zero n l =
@@ -121,14 +127,60 @@ place-end s p i n h =
 pub names-turn : (s : List ℕ) (n p : ℕ) → namesFrom (suc n) (drop p s) ≡ nameAt s p ∷ namesFrom n (drop (nameEnd s p) s)
 unfolding namesFrom nameEnd
 names-turn s n p =
-    let z : p + 0 ≡ p = omega arith in
-    let o : octet (drop p s) 0 ≡ octet s p = getD-drop p s 0 0 ∙ ap (octet s) z in
+    let o = first-octet s p in
     let k = octet s p in
     let j : p + (1 + k) ≡ p + 1 + k = omega arith in
     ap₂ _∷_
     (ap₂ take o (drop-drop 1 p s) ∙ cut-take s (p + 1) k)
     (ap (namesFrom n)
     (ap (λ (m : ℕ). drop (1 + m) (drop p s)) o ∙ drop-drop (1 + k) p s ∙ ap (λ (m : ℕ). drop m s) j ∙ sym (drop-drop k (p + 1) s) ∙ cut-drop s (p + 1) k))
+
+-- how many octets they take, where so many are there, one name on
+pub sizes-turn : (s : List ℕ) (q left : ℕ) → 0 < left
+    → min (q + namesSize left (drop q s)) (length s) ≡ min (nameEnd s q + namesSize (left - 1) (drop (nameEnd s q) s)) (length s)
+unfolding namesSize nameEnd
+sizes-turn s q left h =
+    let e : left ≡ suc (left - 1) = omega arith in
+    let k = 1 + octet s q in
+    let j : q + 1 + octet s q ≡ q + k = omega arith in
+    let o : octet (drop q s) 0 ≡ octet s q = first-octet s q in
+    let d : drop (1 + octet (drop q s) 0) (drop q s) ≡ drop (min (q + k) (length s)) s = ap (λ (m : ℕ). drop (1 + m) (drop q s)) o ∙ cut-drop s q k in
+    let m = ap (namesSize (left - 1)) d in
+    let n : namesSize left (drop q s) ≡ 1 + octet (drop q s) 0 + namesSize (left - 1) (drop (1 + octet (drop q s) 0) (drop q s)) = ap (λ (i : ℕ). namesSize i (drop q s)) e in
+    rw j (omega (arith, m, n, o))
+
+-- what stands behind them does not count
+module _ (n x : ℕ) (s : List ℕ) where
+  names-first : namesFrom (suc n) (x ∷ s) ≡ take x s ∷ namesFrom n (drop x s)
+  unfolding namesFrom
+  names-first = let z : 1 + x ≡ suc x = omega arith in ap (λ (k : ℕ). take x s ∷ namesFrom n (drop k (x ∷ s))) z
+
+  size-first : namesSize (suc n) (x ∷ s) ≡ suc (x + namesSize n (drop x s))
+  unfolding namesSize
+  size-first = let z : 1 + x ≡ suc x = omega arith in omega (arith, ap (λ (k : ℕ). namesSize n (drop k (x ∷ s))) z)
+
+pub names-cut : (n : ℕ) (s : List ℕ) → namesFrom n (take (namesSize n s) s) ≡ namesFrom n s
+unfolding namesFrom
+names-cut zero s = refl
+names-cut (suc n) [] = ap (namesFrom (suc n)) (take-nil (namesSize (suc n) []))
+names-cut (suc n) (x ∷ s) =
+    let m = namesSize n (drop x s) in
+    let e : x + m - x ≡ m = omega arith in
+    ap (λ (k : ℕ). namesFrom (suc n) (take k (x ∷ s))) (size-first n x s)
+    ∙ names-first n x (take (x + m) s)
+    ∙ ap₂ _∷_ (take-take x (x + m) s (omega arith)) (ap (namesFrom n) (drop-take x (x + m) s ∙ rw e) ∙ names-cut n (drop x s))
+    ∙ sym (names-first n x s)
+
+-- the section of communities that begins with its count
+pub names-part : (s : List ℕ) (p : ℕ) {section names : List ℕ} {count end : ℕ} → section ≡ drop p s → names ≡ drop 1 section → count ≡ octet section 0
+    → end ≡ min (namesSize count names) (length names)
+    → part names 0 end ≡ take (namesSize (octet s p) (drop (p + 1) s)) (drop (p + 1) s)
+names-part s p {section} {names} {count} {end} e f g h =
+    let n : names ≡ drop (p + 1) s = f ∙ ap (drop 1) e ∙ drop-drop 1 p s in
+    let c : count ≡ octet s p = g ∙ ap (λ (b : List ℕ). octet b 0) e ∙ first-octet s p in
+    let k = namesSize count names in
+    let z : 0 + k ≡ k = omega arith in
+    ap (part names 0) (h ∙ ap (λ (m : ℕ). min m (length names)) (sym z)) ∙ sym (cut-take names 0 k) ∙ ap₂ (λ (i : ℕ) (b : List ℕ). take (namesSize i b) b) c n
 
 -- one turn of a search among names
 

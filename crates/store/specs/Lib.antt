@@ -1,4 +1,5 @@
 pub mod Store
+pub mod Steps
 pub mod Image
 pub mod Signer
 pub mod Listing

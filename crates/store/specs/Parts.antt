@@ -52,6 +52,10 @@ unfoldable pub recordPlace : List ℕ → ℕ → ℕ → ℕ
 recordPlace s p zero = p
 recordPlace s p (suc i) = recordPlace s (recordEnd s p) i
 
+-- where the record with a position stands; behind the last one, the communities' count
+abbrev pub placeOf : List ℕ → ℕ → ℕ
+placeOf image i = recordPlace image (firstRecord image) i
+
 -- a record's parts
 
 abbrev pub infoIn : List ℕ → List ℕ
@@ -70,21 +74,22 @@ numberIn r = presentNumber (octet r 0) (number (take 8 (drop 1 r)))
 abbrev pub anchorIn : List ℕ → Anchor
 anchorIn r = record { number = numberIn r; info = infoIn r }
 
+-- the TrustAnchorInfo at a position
+abbrev pub infoAt : List ℕ → ℕ → List ℕ
+infoAt image i = infoIn (recordAt image (placeOf image i))
+
 -- an anchor's number as the code has it
 abbrev pub numberOf : Number → Option ℕ
 numberOf Absent = none
 numberOf (Is n) = some n
 
--- Communities: where their count stands behind the last record, the count, and they themselves, each a length and so many octets
+-- Communities: where their count stands behind the last record, the count, and they themselves
 
 unfoldable pub communityPlace : List ℕ → ℕ
-communityPlace image = recordPlace image (firstRecord image) (anchorCount image)
+communityPlace image = placeOf image (anchorCount image)
 
 unfoldable pub communityCount : List ℕ → ℕ
 communityCount image = octet image (communityPlace image)
-
-unfoldable pub communityOctets : List ℕ → List ℕ
-communityOctets image = drop (communityPlace image + 1) image
 
 -- where the name at place p ends, or the octets do; a name is a length of one octet and so many octets
 unfoldable pub nameEnd : List ℕ → ℕ → ℕ
@@ -93,10 +98,20 @@ nameEnd s p = min (p + 1 + octet s p) (length s)
 abbrev pub nameAt : List ℕ → ℕ → List ℕ
 nameAt s p = part s (p + 1) (nameEnd s p)
 
--- the names at the head of octets
+-- the names at the head of octets, and how many octets they take
 unfoldable pub namesFrom : ℕ → List ℕ → List (List ℕ)
 namesFrom zero s = []
 namesFrom (suc n) s = take (octet s 0) (drop 1 s) ∷ namesFrom n (drop (1 + octet s 0) s)
+
+unfoldable pub namesSize : ℕ → List ℕ → ℕ
+namesSize zero s = 0
+namesSize (suc n) s = 1 + octet s 0 + namesSize n (drop (1 + octet s 0) s)
+
+-- the communities' octets, behind their count and up to where the last one ends
+unfoldable pub communityOctets : List ℕ → List ℕ
+communityOctets image =
+    let names = drop (communityPlace image + 1) image in
+    take (namesSize (communityCount image) names) names
 
 unfoldable pub communitiesOf : List ℕ → List (List ℕ)
 communitiesOf image = namesFrom (communityCount image) (communityOctets image)

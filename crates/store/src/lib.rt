@@ -1,9 +1,9 @@
 // The store: its image, the records in it, and its listing (01, The store image).
 // Everything here takes any octets, an image or not; what it says of an image is in proofs/Parts.
 ghost use mathlib.Core.Path.{_≡_};
-ghost use Prim.Native.Nat.{_+_, _<_};
+ghost use Prim.Native.Nat.{_+_, _<_, min};
 ghost use mathlib.Core.List.{_∷_, map};
-ghost use lib.ListN.{drop};
+ghost use lib.ListN.{length, drop};
 ghost use lib.Dec.{eqb};
 ghost use Rattle.octets.specs.Octets.{octet, same, member};
 ghost use Rattle.store.specs.Records.{recordsFrom, recordsOf};
@@ -16,7 +16,7 @@ ghost use Rattle.store.specs.Parts.{
   firstRecord,
   recordEnd,
   recordAt,
-  recordPlace,
+  placeOf,
   infoIn,
   identifierIn,
   numberIn,
@@ -27,6 +27,7 @@ ghost use Rattle.store.specs.Parts.{
   nameEnd,
   nameAt,
   namesFrom,
+  namesSize,
   isSought,
   firstFrom,
   infosFrom,
@@ -61,18 +62,12 @@ pub enum Position {
     Nothing,
 }
 
-fn wide(x: u8) -> usize
-    ensures { λ r. ⌜ r ≡ x ⌝ }
-{
-    x as usize
-}
-
 // The octet at a place, 0 behind the end.
 pub fn octet_at(s: &[u8], p: usize) -> usize
     ensures { λ r. ⌜ (r ≡ octet (now (s .entry)) p) × (r < 256) ⌝ }
 {
     if p < s.len() {
-        return wide(s[p]);
+        return octets::wide(s[p]);
     }
     0
 }
@@ -102,7 +97,7 @@ pub fn serial(image: &[u8]) -> &[u8]
 }
 
 // Where the anchors' count stands.
-fn anchor_place(image: &[u8]) -> usize
+pub fn anchor_place(image: &[u8]) -> usize
     ensures { λ r. ⌜ (r ≡ anchorPlace (now (image .entry))) × (r < 1024) ⌝ }
 {
     let p = 2 + octet_at(image, 1);
@@ -149,7 +144,7 @@ pub fn record_at(s: &[u8], p: usize) -> &[u8]
 
 // Where the record with a position stands; behind the last one, the communities' count.
 pub fn record_place(image: &[u8], position: usize) -> usize
-    ensures { λ r. ⌜ r ≡ recordPlace (now (image .entry)) (firstRecord (now (image .entry))) position ⌝ }
+    ensures { λ r. ⌜ r ≡ placeOf (now (image .entry)) position ⌝ }
 {
     let mut p = first_record(image);
     let mut i = 0;
@@ -182,7 +177,7 @@ pub fn number_of(row: &[u8]) -> Number
     Number::Absent
 }
 
-// Where the communities' count stands, the count, and the communities' octets: length and contents, one behind the other.
+// Where the communities' count stands, and the count.
 pub fn community_place(image: &[u8]) -> usize
     ensures { λ r. ⌜ r ≡ communityPlace (now (image .entry)) ⌝ }
 {
@@ -195,10 +190,13 @@ pub fn community_count(image: &[u8]) -> usize
     octet_at(image, community_place(image))
 }
 
+// The communities' octets, behind their count and up to where the last one ends.
 pub fn community_octets(image: &[u8]) -> &[u8]
     ensures { λ r. ⌜ now r ≡ communityOctets (now (image .entry)) ⌝ }
 {
-    behind(behind(image, community_place(image)), 1)
+    let section = behind(image, community_place(image));
+    let names = behind(section, 1);
+    octets::part(names, 0, names_end(names, octet_at(section, 0)))
 }
 
 // Where the name at place p ends, or the octets do.
@@ -209,7 +207,7 @@ pub fn name_end(s: &[u8], p: usize) -> usize
     if n <= p {
         return n;
     }
-    let size = wide(s[p]);
+    let size = octets::wide(s[p]);
     if n - p - 1 < size {
         return n;
     }
@@ -221,6 +219,19 @@ pub fn name_at(s: &[u8], p: usize) -> &[u8]
     ensures { λ r. ⌜ now r ≡ nameAt (now (s .entry)) p ⌝ }
 {
     behind(octets::part(s, p, name_end(s, p)), 1)
+}
+
+// Where the n names at the head of octets end, or the octets do.
+fn names_end(s: &[u8], n: usize) -> usize
+    ensures { λ r. ⌜ r ≡ min (namesSize n (now (s .entry))) (length (now (s .entry))) ⌝ }
+{
+    let mut p = 0;
+    let mut left = n;
+    while 0 < left {
+        p = name_end(s, p);
+        left -= 1;
+    }
+    p
 }
 
 // Some of the n names from place p on is the one wanted.

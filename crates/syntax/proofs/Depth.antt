@@ -9,50 +9,37 @@ use lib.Dec.{ltb, eqb}
 use borrow.Author.Tests.{lt-ltb, eqb-true, eq-eqb}
 use Rattle.octets.proofs.Lists.{by-test}
 use Rattle.der.specs.declared.Element.{Element}
-use Rattle.der.specs.declared.Fit.{Fit}
-use Rattle.der.specs.declared.Fit.the-variants.{Fits, Breaks}
+use Rattle.der.specs.declared.Fit.the-variants.{Fits}
 use Rattle.der.specs.Element.{elementAt, inside, contents, constructed}
 use Rattle.der.specs.Contents.{contentsOk}
-use Rattle.der.specs.Fit.{andThen, held, each}
+use Rattle.der.specs.Fit.{held, each}
 use Rattle.der.specs.Check.{sortedIn, der, spans}
 use Rattle.der.proofs.Fits.{then-fits, held-fits}
-use Rattle.syntax.proofs.Each.{on, off, Every, every-member, each-weaker, then-both, held-true, breaks≢fits}
+use Rattle.der.proofs.Checks.{memberFit, der-bad, der-run, der-leaf}
+use Rattle.der.proofs.Bools.{on-true, on-false}
+use Rattle.syntax.proofs.Once.{not-zero}
+use Rattle.syntax.proofs.Each.{Every, every-member, each-weaker, then-both, held-true, breaks≢fits}
 
--- the judge of the members of an element
-abbrev pub memberJudge : ℕ → List ℕ → Element → Element → Element → Fit
-memberJudge d s e former m = andThen (der d s m) (held (m .at) (sortedIn (e .tag) s former m))
-
--- what one level is, by the tag
-module _ (d : ℕ) (s : List ℕ) (e : Element) where
-  pub der-bad : e .good ≡ false → der (suc d) s e ≡ Breaks (e .at)
-  unfolding der
-  der-bad g = off (e .good) _ _ g
-
-  pub der-constructed : e .good ≡ true → constructed (e .tag) ≡ true → der (suc d) s e ≡ each (memberJudge d s e) (inside s e)
-  unfolding der
-  der-constructed g c = on (e .good) _ _ g ∙ on (constructed (e .tag)) _ _ c
-
-  pub der-primitive : e .good ≡ true → constructed (e .tag) ≡ false → der (suc d) s e ≡ held (e .at) (contentsOk (e .tag) (contents s e))
-  unfolding der
-  der-primitive g c = on (e .good) _ _ g ∙ off (constructed (e .tag)) _ _ c
+der-members : (d : ℕ) (s : List ℕ) (e : Element) → e .good ≡ true → constructed (e .tag) ≡ true → der (suc d) s e ≡ each (memberFit d s (e .tag)) (inside s e)
+der-members d s e g c = let p : suc d - 1 ≡ d = omega arith in rw p at (der-run s e (suc d) (not-zero d) g c)
 
 pub der-good : (d : ℕ) (s : List ℕ) (e : Element) → der d s e ≡ Fits → e .good ≡ true
 unfolding der
 der-good zero s e h = absurd (breaks≢fits h)
-der-good (suc d) s e h = by-test (e .good) (λ g. g) (λ g. absurd (breaks≢fits (sym (der-bad d s e g) ∙ h)))
+der-good (suc d) s e h = by-test (e .good) (λ g. g) (λ g. absurd (breaks≢fits (sym (der-bad s e (suc d) g) ∙ h)))
 
 -- the members of a constructed element have one level less
 pub inside-der : (d : ℕ) (s : List ℕ) (e : Element) → der (suc d) s e ≡ Fits → constructed (e .tag) ≡ true → Every (λ m. der d s m ≡ Fits) (inside s e)
 inside-der d s e h c =
-    every-member (memberJudge d s e) (λ m. der d s m ≡ Fits)
+    every-member (memberFit d s (e .tag)) (λ m. der d s m ≡ Fits)
     (λ former m g f. then-both (der d s m) (held (m .at) (sortedIn (e .tag) s former m)) f .0)
     (inside s e)
-    (sym (der-constructed d s e (der-good (suc d) s e h) c) ∙ h)
+    (sym (der-members d s e (der-good (suc d) s e h) c) ∙ h)
 
 -- the contents of any other are as its tag asks
 pub contents-der : (d : ℕ) (s : List ℕ) (e : Element) → der (suc d) s e ≡ Fits → constructed (e .tag) ≡ false → contentsOk (e .tag) (contents s e) ≡ true
 contents-der d s e h c =
-    held-true (e .at) (contentsOk (e .tag) (contents s e)) (sym (der-primitive d s e (der-good (suc d) s e h) c) ∙ h)
+    held-true (e .at) (contentsOk (e .tag) (contents s e)) (sym (der-leaf s e (suc d) (not-zero d) (der-good (suc d) s e h) c) ∙ h)
 
 -- more levels are no worse
 pub deeper : (d : ℕ) (s : List ℕ) (e : Element) → der d s e ≡ Fits → der (suc d) s e ≡ Fits
@@ -62,14 +49,14 @@ deeper (suc d) s e h =
     let g = der-good (suc d) s e h in
     by-test (constructed (e .tag))
     (λ c.
-    der-constructed (suc d) s e g c
-    ∙ each-weaker (memberJudge d s e) (memberJudge (suc d) s e)
+    der-members (suc d) s e g c
+    ∙ each-weaker (memberFit d s (e .tag)) (memberFit (suc d) s (e .tag))
     (λ former m f.
     let two = then-both (der d s m) (held (m .at) (sortedIn (e .tag) s former m)) f in
     then-fits (held (m .at) (sortedIn (e .tag) s former m)) (deeper d s m (two .0)) ∙ two .1)
     (inside s e)
-    (sym (der-constructed d s e g c) ∙ h))
-    (λ c. der-primitive (suc d) s e g c ∙ sym (der-primitive d s e g c) ∙ h)
+    (sym (der-members d s e g c) ∙ h))
+    (λ c. der-leaf s e (suc (suc d)) (not-zero (suc d)) g c ∙ sym (der-leaf s e (suc d) (not-zero d) g c) ∙ h)
 
 pub deeper-by : (n d : ℕ) (s : List ℕ) (e : Element) → der d s e ≡ Fits → der (n + d) s e ≡ Fits
 deeper-by zero d s e h = rw zero-add h
@@ -88,12 +75,12 @@ spans-fits d s at stop outer h =
     let e = elementAt s at stop in
     by-test (ltb at stop)
     (λ l.
-    let two = then-both (der d s e) (held (e .stop) (eqb (e .stop) stop)) (sym (on (ltb at stop) _ _ l) ∙ h) in
+    let two = then-both (der d s e) (held (e .stop) (eqb (e .stop) stop)) (sym (on-true (ltb at stop) _ _ l) ∙ h) in
     (two .0, eqb-true (e .stop) stop (held-true (e .stop) (eqb (e .stop) stop) (two .1))))
-    (λ l. absurd (breaks≢fits (sym (off (ltb at stop) _ _ l) ∙ h)))
+    (λ l. absurd (breaks≢fits (sym (on-false (ltb at stop) _ _ l) ∙ h)))
 
 pub spans-holds : (d : ℕ) (s : List ℕ) (at stop outer : ℕ) → at < stop → der d s (elementAt s at stop) ≡ Fits → elementAt s at stop .stop ≡ stop
     → spans d s at stop outer ≡ Fits
 unfolding spans
 spans-holds d s at stop outer l h e =
-    on (ltb at stop) _ _ (lt-ltb at stop l) ∙ then-fits _ h ∙ held-fits (elementAt s at stop .stop) (eq-eqb (elementAt s at stop .stop) stop e)
+    on-true (ltb at stop) _ _ (lt-ltb at stop l) ∙ then-fits _ h ∙ held-fits (elementAt s at stop .stop) (eq-eqb (elementAt s at stop .stop) stop e)

@@ -1,6 +1,6 @@
 -- Laws of keeping rules (der, specs/Fit): what is known where a chain of rules is kept, and of the members of a run that a judge passed.
 use Prim.Native.Nat.{ℕ}
-use mathlib.Core.Bool.{Bool, true, false, _&&_, true≢false, false≢true}
+use mathlib.Core.Bool.{Bool, true, false, _&&_, false≢true}
 use mathlib.Core.List.{List, [], _∷_, map}
 use mathlib.Core.Path.{_≡_, refl, sym, ap, ap₂, _∙_}
 use Rattle.octets.specs.Lists.{allOf}
@@ -9,6 +9,7 @@ use Rattle.der.specs.declared.Element.{Element}
 use Rattle.der.specs.declared.Fit.{Fit}
 use Rattle.der.specs.declared.Fit.the-variants.{Fits, Breaks}
 use Rattle.der.specs.Fit.{andThen, held, kept, eachFrom, each}
+use Rattle.syntax.specs.Grammar.{byElement}
 
 module _ {A : Type 0} where
   -- every member of a list has the property
@@ -33,16 +34,6 @@ pub every-map : {A B : Type 0} (f : A → B) (Q : B → Type 0) (l : List A) →
 every-map f Q [] h = tt
 every-map f Q (x ∷ l) h = (h .0, every-map f Q l (h .1))
 
--- a test that was passed, and one that was not
-
-pub on : (b : Bool) (x y : Fit) → b ≡ true → elim b [ false ↦ y | true ↦ x ] ≡ x
-on true x y e = refl
-on false x y e = absurd (false≢true e)
-
-pub off : (b : Bool) (x y : Fit) → b ≡ false → elim b [ false ↦ y | true ↦ x ] ≡ y
-off true x y e = absurd (true≢false e)
-off false x y e = refl
-
 -- kept or not
 
 pub kept-fits : (f : Fit) → kept f ≡ true → f ≡ Fits
@@ -61,6 +52,24 @@ pub kept-held : (at : ℕ) (b : Bool) → kept (held at b) ≡ b
 unfolding held
 kept-held at true = refl
 kept-held at false = refl
+
+-- what is kept alike, part by part
+
+pub alike-if : (b : Bool) (x y u v : Fit) → (b ≡ true → kept x ≡ kept u) → (b ≡ false → kept y ≡ kept v)
+    → kept (elim b [ false ↦ y | true ↦ x ]) ≡ kept (elim b [ false ↦ v | true ↦ u ])
+alike-if true x y u v p q = p refl
+alike-if false x y u v p q = q refl
+
+pub alike-element : {b c : Bool} → b ≡ c → (i j : ℕ) (good : Bool) (x y u v : Fit) → kept x ≡ kept u → (good ≡ true → kept y ≡ kept v)
+    → kept (byElement b i good x y) ≡ kept (byElement c j good u v)
+alike-element {b} {c} e i j good x y u v p q =
+    rw e (alike-if c (elim good [ false ↦ Breaks i | true ↦ y ]) x (elim good [ false ↦ Breaks j | true ↦ v ]) u (λ r. alike-if good y (Breaks i) v (Breaks j) q (λ g. refl)) (λ r. p))
+
+pub alike-then : (f g h k : Fit) → kept f ≡ kept h → kept g ≡ kept k → kept (andThen f g) ≡ kept (andThen h k)
+alike-then f g h k p q = kept-then f g ∙ ap₂ _&&_ p q ∙ sym (kept-then h k)
+
+pub alike-held : (i j : ℕ) {b c : Bool} → b ≡ c → kept (held i b) ≡ kept (held j c)
+alike-held i j {b} {c} p = kept-held i b ∙ p ∙ sym (kept-held j c)
 
 -- a chain that is kept
 pub then-both : (f g : Fit) → andThen f g ≡ Fits → (f ≡ Fits) × (g ≡ Fits)

@@ -1,12 +1,12 @@
 -- Where a run of elements is as a syntax says, the first element with a tag is the syntax's field with that tag. The syntax itself says which field that is
 -- (`fieldIn`, which computes), so the law of a message's field is one line.
-use Prim.Native.Nat.{ℕ, _≤_, _<_}
+use Prim.Native.Nat.{ℕ, _≤_}
 use native.Mathlib.Omega.{arith}
 use mathlib.Core.Bool.{Bool, true, false, not, _&&_, true≢false, false≢true, and-eq-true-iff}
 use mathlib.Core.List.{List}
 use mathlib.Core.Path.{_≡_, refl, sym, ap, _∙_}
 use lib.Dec.{leb, eqb}
-use borrow.Author.Tests.{le-leb, eqb-true, eqb-false, not-true, eq-eqb}
+use borrow.Author.Tests.{le-leb, eqb-true, eqb-false, not-true}
 use Rattle.octets.proofs.Lists.{by-test}
 use Rattle.der.specs.declared.Element.{Element}
 use Rattle.der.specs.declared.Fit.the-variants.{Fits}
@@ -15,7 +15,7 @@ use Rattle.der.specs.Fit.{held}
 use Rattle.der.proofs.Fits.{then-fits, held-fits}
 use Rattle.der.proofs.Elements.{good-within, with-tag-end, with-tag-found, with-tag-turn}
 use Rattle.syntax.specs.Grammar.{Syntax, free, end, obeys, optional, one, anyOptional, many, fit}
-use Rattle.syntax.proofs.Match.{First, optional-here, one-turn, optional-fits, one-fits, end-fits, obeys-fits, many-fits}
+use Rattle.syntax.proofs.Match.{First, met, optional-here, one-turn, optional-fits, one-fits, end-fits, obeys-fits, many-fits}
 use Rattle.syntax.proofs.Each.{Every, every-weaken, every-both}
 use Rattle.syntax.proofs.Window.{Own, own, own-within, again, Member, members}
 
@@ -62,6 +62,21 @@ fieldIn t (one g next) = elim (lacks t g) [ true ↦ fieldIn t next | false ↦ 
 fieldIn t (anyOptional next) = untold
 fieldIn t (many g) = untold
 
+-- no element has the tag, so no field has it
+lacks-nowhere : (t : ℕ) (g : Syntax) → lacks t g ≡ true → fieldIn t g ≡ nowhere
+unfolding lacks fieldIn
+lacks-nowhere t free l = absurd (false≢true l)
+lacks-nowhere t end l = refl
+lacks-nowhere t (obeys r g) l = lacks-nowhere t g l
+lacks-nowhere t (optional u g next) l =
+    let k = and-eq-true-iff (not (eqb u t)) (lacks t next) .0 l in
+    rw (not-true (eqb u t) (k .0), fieldIn) (lacks-nowhere t next (k .1))
+lacks-nowhere t (one g next) l =
+    let k = and-eq-true-iff (lacks t g) (lacks t next) .0 l in
+    rw (k .0, fieldIn) (lacks-nowhere t next (k .1))
+lacks-nowhere t (anyOptional next) l = absurd (false≢true l)
+lacks-nowhere t (many g) l = absurd (false≢true l)
+
 -- an element with the tag t in a window, with contents as g says
 pub record Found (t : ℕ) (g : Syntax) (s : List ℕ) (at stop : ℕ) (e : Element) : Type 0 where
   pub own : Own s e
@@ -107,30 +122,6 @@ module _ (t : ℕ) (s : List ℕ) where
       let w = good-within s at stop refl b in
       absent-bad (sym (with-tag-found t s at (e .stop) (sym (again s at stop refl b)) (omega arith) n) ∙ q) b
 
-  -- nothing with the tag
-  pub lacking : (g : Syntax) (at stop outer : ℕ) → lacks t g ≡ true → fit g s at stop outer ≡ Fits → withTag t (elements s at stop) ≡ absent 0
-  unfolding lacks
-  lacking free at stop outer l h = absurd (false≢true l)
-  lacking end at stop outer l h = with-tag-end t s at stop (end-fits s at stop outer h)
-  lacking (obeys r g) at stop outer l h = lacking g at stop outer l (obeys-fits s at stop outer r g h .0)
-  lacking (optional u g next) at stop outer l h =
-      let e = elementAt s at stop in
-      let k = and-eq-true-iff (not (eqb u t)) (lacks t next) .0 l in
-      optional-fits s at stop outer refl u g next h
-      (λ m f. lacking next at stop outer (k .1) f)
-      (λ m b n f. lacking next at stop outer (k .1) f)
-      (λ m b n f r.
-      with-tag-turn t s at stop refl b (λ x. eqb-false u t (not-true (eqb u t) (k .0)) (sym (eqb-true (e .tag) u n) ∙ x))
-      ∙ lacking next (e .stop) stop outer (k .1) r)
-  lacking (one g next) at stop outer l h =
-      let e = elementAt s at stop in
-      let k = and-eq-true-iff (lacks t g) (lacks t next) .0 l in
-      let f = one-fits s at stop outer refl g next h in
-      with-tag-turn t s at stop refl (f .good) (unlike at stop (f .good) (lacking g at (e .stop) outer (k .0) (f .alone)))
-      ∙ lacking next (e .stop) stop outer (k .1) (f .rest)
-  lacking (anyOptional next) at stop outer l h = absurd (false≢true l)
-  lacking (many g) at stop outer l h = absurd (false≢true l)
-
   only-placed : (g next : Syntax) (at stop outer : ℕ) → First s at stop outer refl g next
       → Placed t s at stop outer (withTag t (elements s at stop)) (onlyField t g next)
   unfolding onlyField
@@ -172,8 +163,8 @@ module _ (t : ℕ) (s : List ℕ) where
       in
       rw (n, l, fieldIn)
       (optional-fits s at stop outer refl u g next h
-      (λ m f. none (lacking next at stop outer l f))
-      (λ m b k f. none (lacking next at stop outer l f))
+      (λ m f. none (rw (lacks-nowhere t next l) at (placed next at stop outer f)))
+      (λ m b k f. none (rw (lacks-nowhere t next l) at (placed next at stop outer f)))
       (λ m b k f r.
       let q = eqb-true (e .tag) u k ∙ eqb-true u t n in
       let w = good-within s at stop refl b in
@@ -197,7 +188,7 @@ module _ (t : ℕ) (s : List ℕ) where
       by-test (lacks t g)
       (λ l.
       let w = good-within s at stop refl (f .good) in
-      rw (l, fieldIn, with-tag-turn t s at stop refl (f .good) (unlike at stop (f .good) (lacking g at (e .stop) outer l (f .alone))))
+      rw (l, fieldIn, with-tag-turn t s at stop refl (f .good) (unlike at stop (f .good) (rw (lacks-nowhere t g l) at (placed g at (e .stop) outer (f .alone)))))
       (wider at (e .stop) stop outer (withTag t (elements s (e .stop) stop)) (fieldIn t next) (omega arith) (placed next (e .stop) stop outer (f .rest))))
       (λ l. rw (l, fieldIn) (only-placed g next at stop outer f))
   placed (anyOptional next) at stop outer h = tt
@@ -220,13 +211,11 @@ pub as-only : (t : ℕ) (g : Syntax) (s : List ℕ) (at stop outer : ℕ) (e : E
     → fit (one (optional t g end) end) s (e .at) (e .stop) outer ≡ Fits
 unfolding fit
 as-only t g s at stop outer e f =
-    let w = own-within s e (f .own) in
-    let l : e .at < e .stop = omega arith in
     let nothing : held (e .stop) (leb (e .stop) (e .stop)) ≡ Fits = held-fits (e .stop) (le-leb (e .stop) (e .stop) (omega arith)) in
-    let q = f .own .is in
-    one-turn s (e .at) (e .stop) outer q (optional t g end) end l (f .own .good)
+    let m = met (f .own .is) (f .own .good) in
+    one-turn m outer (optional t g end) end
     ∙ then-fits _
-    (optional-here s (e .at) (e .stop) outer q t g end l (f .own .good) (eq-eqb (e .tag) t (f .tag)) ∙ then-fits _ (f .fits) ∙ nothing)
+    (optional-here m outer t g end (f .tag) ∙ then-fits _ (f .fits) ∙ nothing)
     ∙ nothing
 
 -- the contents of the alternative with the tag t of a CHOICE

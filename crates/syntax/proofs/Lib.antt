@@ -9,6 +9,7 @@ pub mod Rows
 pub mod RowRules
 pub mod RowSteps
 pub mod Whole
+pub mod Cycle
 pub mod Ties
 pub mod TypeTable
-pub mod FieldTheorems
+pub mod Once

@@ -1,75 +1,94 @@
--- `fit` step by step: one law for each way through its tests, and what is known where it fits. Nothing else opens `fit` at `optional`, `one` and `anyOptional`.
+-- `fit` step by step: what stands at a place of a window, and what is known where it fits.
 use Prim.Native.Nat.{ℕ, _≤_, _<_}
+use native.Mathlib.Omega.{arith}
 use mathlib.Core.Bool.{true, false}
 use mathlib.Core.List.{List}
 use mathlib.Core.Path.{_≡_, sym, _∙_}
 use lib.Dec.{ltb, leb, eqb}
-use borrow.Author.Tests.{ltb-true, ltb-false, lt-ltb, le-ltb, leb-true}
+use borrow.Author.Tests.{ltb-true, ltb-false, lt-ltb, le-ltb, leb-true, eq-eqb, ne-eqb, eqb-true, eqb-false}
 use Rattle.octets.specs.Octets.{part}
 use Rattle.octets.proofs.Lists.{by-test}
 use Rattle.der.specs.declared.Element.{Element}
+use Rattle.der.specs.declared.Fit.{Fit}
 use Rattle.der.specs.declared.Fit.the-variants.{Fits, Breaks}
 use Rattle.der.specs.Element.{elementAt, elements}
 use Rattle.der.specs.Fit.{andThen, held}
-use Rattle.syntax.specs.Grammar.{Rule, obeyed, Syntax, end, obeys, optional, one, anyOptional, many, fit}
-use Rattle.syntax.proofs.Each.{on, off, Every, every-member, then-both, held-true, breaks≢fits}
+use Rattle.syntax.specs.Grammar.{Rule, obeyed, Syntax, end, obeys, optional, one, anyOptional, many, byElement, fit}
+use Rattle.der.proofs.Elements.{good-within}
+use Rattle.der.proofs.Bools.{on-true, on-false}
+use Rattle.syntax.proofs.Window.{again}
+use Rattle.syntax.proofs.Each.{Every, every-member, then-both, held-true, breaks≢fits}
+
+-- an element stands at the place
+pub record Met (s : List ℕ) (at stop : ℕ) (e : Element) : Type 0 where
+  pub is : e ≡ elementAt s at stop
+  pub room : at < stop
+  pub good : e .good ≡ true
+
+pub met : {s : List ℕ} {at stop : ℕ} {e : Element} → e ≡ elementAt s at stop → e .good ≡ true → Met s at stop e
+met {s} {at} {stop} q g = let w = good-within s at stop q g in record { is = q; room = omega arith; good = g }
+
+-- it stands in the window of its own octets too
+pub own-window : {s : List ℕ} {at stop : ℕ} {e : Element} → Met s at stop e → Met s at (e .stop) e
+own-window {s} {at} {stop} m = met (sym (again s at stop (m .is) (m .good))) (m .good)
+
+-- the three ways: no element is left, what stands there is none, one stands there
+
+module _ (s : List ℕ) (at stop outer : ℕ) where
+  module _ (l : stop ≤ at) where
+    pub optional-end : (t : ℕ) (g next : Syntax) → fit (optional t g next) s at stop outer ≡ fit next s at stop outer
+    unfolding fit
+    optional-end t g next = on-false (ltb at stop) _ _ (le-ltb at stop l)
+
+    pub one-end : (g next : Syntax) → fit (one g next) s at stop outer ≡ Breaks outer
+    unfolding fit
+    one-end g next = on-false (ltb at stop) _ _ (le-ltb at stop l)
+
+    pub any-end : (next : Syntax) → fit (anyOptional next) s at stop outer ≡ fit next s at stop outer
+    unfolding fit
+    any-end next = on-false (ltb at stop) _ _ (le-ltb at stop l)
+
+  module _ {e : Element} (q : e ≡ elementAt s at stop) (l : at < stop) (b : e .good ≡ false) where
+    at-broken : (x y : Fit) → byElement (ltb at stop) at (elementAt s at stop .good) x y ≡ Breaks at
+    at-broken x y = on-true (ltb at stop) _ x (lt-ltb at stop l) ∙ on-false (elementAt s at stop .good) y (Breaks at) (rw q at b)
+
+    pub optional-broken : (t : ℕ) (g next : Syntax) → fit (optional t g next) s at stop outer ≡ Breaks at
+    unfolding fit
+    optional-broken t g next = at-broken _ _
+
+    pub one-broken : (g next : Syntax) → fit (one g next) s at stop outer ≡ Breaks at
+    unfolding fit
+    one-broken g next = at-broken _ _
+
+    pub any-broken : (next : Syntax) → fit (anyOptional next) s at stop outer ≡ Breaks at
+    unfolding fit
+    any-broken next = at-broken _ _
+
+module _ {s : List ℕ} {at stop : ℕ} {e : Element} (m : Met s at stop e) where
+  pub at-met : (x y : Fit) → byElement (ltb at stop) at (elementAt s at stop .good) x y ≡ y
+  at-met x y = on-true (ltb at stop) _ x (lt-ltb at stop (m .room)) ∙ on-true (elementAt s at stop .good) y (Breaks at) (rw (m .is) at (m .good))
+
+  module _ (outer t : ℕ) (g next : Syntax) where
+    pub optional-other : (e .tag ≡ t → ⊥) → fit (optional t g next) s at stop outer ≡ fit next s at stop outer
+    unfolding fit
+    optional-other n = at-met _ _ ∙ on-false (eqb (elementAt s at stop .tag) t) _ _ (rw (m .is) at (ne-eqb (e .tag) t n))
+
+    pub optional-here : e .tag ≡ t → fit (optional t g next) s at stop outer ≡ andThen (fit g s (e .start) (e .stop) at) (fit next s (e .stop) stop outer)
+    unfolding fit
+    optional-here n = rw (m .is) (at-met _ _ ∙ on-true (eqb (elementAt s at stop .tag) t) _ _ (rw (m .is) at (eq-eqb (e .tag) t n)))
+
+  module _ (outer : ℕ) where
+    pub one-turn : (g next : Syntax) → fit (one g next) s at stop outer ≡ andThen (fit g s at (e .stop) outer) (fit next s (e .stop) stop outer)
+    unfolding fit
+    one-turn g next = rw (m .is) (at-met _ _)
+
+    pub any-turn : (next : Syntax) → fit (anyOptional next) s at stop outer ≡ fit next s (e .stop) stop outer
+    unfolding fit
+    any-turn next = rw (m .is) (at-met _ _)
+
+-- where it fits: the ways through
 
 module _ (s : List ℕ) (at stop outer : ℕ) {e : Element} (q : e ≡ elementAt s at stop) where
-  -- the three tests: is there room, is it an element, has it the tag
-  module _ (t : ℕ) (g next : Syntax) where
-    pub optional-end : stop ≤ at → fit (optional t g next) s at stop outer ≡ fit next s at stop outer
-    unfolding fit
-    optional-end l = off (ltb at stop) _ _ (le-ltb at stop l)
-
-    pub optional-broken : at < stop → e .good ≡ false → fit (optional t g next) s at stop outer ≡ Breaks at
-    unfolding fit
-    optional-broken l b = on (ltb at stop) _ _ (lt-ltb at stop l) ∙ off (elementAt s at stop .good) _ _ (rw q at b)
-
-    pub optional-other : at < stop → e .good ≡ true → eqb (e .tag) t ≡ false → fit (optional t g next) s at stop outer ≡ fit next s at stop outer
-    unfolding fit
-    optional-other l b n =
-        on (ltb at stop) _ _ (lt-ltb at stop l)
-        ∙ on (elementAt s at stop .good) _ _ (rw q at b)
-        ∙ off (eqb (elementAt s at stop .tag) t) _ _ (rw q at n)
-
-    pub optional-here : at < stop → e .good ≡ true → eqb (e .tag) t ≡ true
-        → fit (optional t g next) s at stop outer ≡ andThen (fit g s (e .start) (e .stop) at) (fit next s (e .stop) stop outer)
-    unfolding fit
-    optional-here l b n =
-        rw q
-        (on (ltb at stop) _ _ (lt-ltb at stop l)
-        ∙ on (elementAt s at stop .good) _ _ (rw q at b)
-        ∙ on (eqb (elementAt s at stop .tag) t) _ _ (rw q at n))
-
-  module _ (g next : Syntax) where
-    pub one-end : stop ≤ at → fit (one g next) s at stop outer ≡ Breaks outer
-    unfolding fit
-    one-end l = off (ltb at stop) _ _ (le-ltb at stop l)
-
-    pub one-broken : at < stop → e .good ≡ false → fit (one g next) s at stop outer ≡ Breaks at
-    unfolding fit
-    one-broken l b = on (ltb at stop) _ _ (lt-ltb at stop l) ∙ off (elementAt s at stop .good) _ _ (rw q at b)
-
-    pub one-turn : at < stop → e .good ≡ true
-        → fit (one g next) s at stop outer ≡ andThen (fit g s at (e .stop) outer) (fit next s (e .stop) stop outer)
-    unfolding fit
-    one-turn l b = rw q (on (ltb at stop) _ _ (lt-ltb at stop l) ∙ on (elementAt s at stop .good) _ _ (rw q at b))
-
-  module _ (next : Syntax) where
-    pub any-end : stop ≤ at → fit (anyOptional next) s at stop outer ≡ fit next s at stop outer
-    unfolding fit
-    any-end l = off (ltb at stop) _ _ (le-ltb at stop l)
-
-    pub any-broken : at < stop → e .good ≡ false → fit (anyOptional next) s at stop outer ≡ Breaks at
-    unfolding fit
-    any-broken l b = on (ltb at stop) _ _ (lt-ltb at stop l) ∙ off (elementAt s at stop .good) _ _ (rw q at b)
-
-    pub any-turn : at < stop → e .good ≡ true → fit (anyOptional next) s at stop outer ≡ fit next s (e .stop) stop outer
-    unfolding fit
-    any-turn l b = rw q (on (ltb at stop) _ _ (lt-ltb at stop l) ∙ on (elementAt s at stop .good) _ _ (rw q at b))
-
-  -- where it fits: the ways through
-
   pub optional-fits : {P : Type 0} (t : ℕ) (g next : Syntax) → fit (optional t g next) s at stop outer ≡ Fits
       → (stop ≤ at → fit next s at stop outer ≡ Fits → P)
       → (at < stop → e .good ≡ true → eqb (e .tag) t ≡ false → fit next s at stop outer ≡ Fits → P)
@@ -77,19 +96,18 @@ module _ (s : List ℕ) (at stop outer : ℕ) {e : Element} (q : e ≡ elementAt
       → P
   optional-fits t g next h none other here =
       by-test (ltb at stop)
-      (λ m.
-      let l = ltb-true at stop m in
+      (λ r.
+      let l = ltb-true at stop r in
       by-test (e .good)
       (λ b.
+      let m = met q b in
       by-test (eqb (e .tag) t)
       (λ n.
-      let two = then-both (fit g s (e .start) (e .stop) at) (fit next s (e .stop) stop outer) (sym (optional-here t g next l b n) ∙ h) in
+      let two = then-both (fit g s (e .start) (e .stop) at) (fit next s (e .stop) stop outer) (sym (optional-here m outer t g next (eqb-true (e .tag) t n)) ∙ h) in
       here l b n (two .0) (two .1))
-      (λ n. other l b n (sym (optional-other t g next l b n) ∙ h)))
-      (λ b. absurd (breaks≢fits (sym (optional-broken t g next l b) ∙ h))))
-      (λ m.
-      let l = ltb-false at stop m in
-      none l (sym (optional-end t g next l) ∙ h))
+      (λ n. other l b n (sym (optional-other m outer t g next (eqb-false (e .tag) t n)) ∙ h)))
+      (λ b. absurd (breaks≢fits (sym (optional-broken s at stop outer q l b t g next) ∙ h))))
+      (λ r. let l = ltb-false at stop r in none l (sym (optional-end s at stop outer l t g next) ∙ h))
 
   pub record First (g next : Syntax) : Type 0 where
     pub good : e .good ≡ true
@@ -99,14 +117,13 @@ module _ (s : List ℕ) (at stop outer : ℕ) {e : Element} (q : e ≡ elementAt
   pub one-fits : (g next : Syntax) → fit (one g next) s at stop outer ≡ Fits → First g next
   one-fits g next h =
       by-test (ltb at stop)
-      (λ m.
-      let l = ltb-true at stop m in
+      (λ r.
       by-test (e .good)
       (λ b.
-      let two = then-both (fit g s at (e .stop) outer) (fit next s (e .stop) stop outer) (sym (one-turn g next l b) ∙ h) in
+      let two = then-both (fit g s at (e .stop) outer) (fit next s (e .stop) stop outer) (sym (one-turn (met q b) outer g next) ∙ h) in
       record { good = b; alone = two .0; rest = two .1 })
-      (λ b. absurd (breaks≢fits (sym (one-broken g next l b) ∙ h))))
-      (λ m. absurd (breaks≢fits (sym (one-end g next (ltb-false at stop m)) ∙ h)))
+      (λ b. absurd (breaks≢fits (sym (one-broken s at stop outer q (ltb-true at stop r) b g next) ∙ h))))
+      (λ r. absurd (breaks≢fits (sym (one-end s at stop outer (ltb-false at stop r) g next) ∙ h)))
 
 module _ (s : List ℕ) (at stop outer : ℕ) where
   pub end-fits : fit end s at stop outer ≡ Fits → stop ≤ at

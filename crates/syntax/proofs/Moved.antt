@@ -8,26 +8,25 @@ use mathlib.Core.Path.{_≡_, refl, sym, ap, ap₂, _∙_}
 use lib.ListN.{length}
 use lib.Seq.{ext-getD}
 use lib.Dec.{ltb, leb, eqb}
-use borrow.Author.Tests.{ltb-true, ltb-false, leb-true, leb-false, le-leb, lt-leb, eqb-true, eqb-false}
+use borrow.Author.Tests.{ltb-true, ltb-false, leb-true, leb-false, lt-ltb, le-ltb, le-leb, lt-leb, eqb-true, eqb-false}
 use Rattle.octets.specs.Octets.{octet, part, ordered}
 use Rattle.octets.specs.Number.{number}
 use Rattle.octets.proofs.Lists.{by-test}
 use Rattle.octets.proofs.Parts.{length-part, octet-part, part-none}
 use Rattle.der.specs.declared.Element.{Element}
 use Rattle.der.specs.declared.Fit.{Fit}
-use Rattle.der.specs.declared.Fit.the-variants.{Fits}
+use Rattle.der.specs.declared.Fit.the-variants.{Fits, Breaks}
 use Rattle.der.specs.Element.{lengthAt, lengthShortest, contentsAt, elementAt, elements, whole, contents, inside, constructed}
 use Rattle.der.specs.Contents.{contentsOk}
-use Rattle.der.specs.Fit.{held, kept, each}
+use Rattle.der.specs.Fit.{andThen, kept, each}
 use Rattle.der.specs.Check.{sortedIn, der, spans}
 use Rattle.der.proofs.Header.{Header, header-or-not, element-is, element-absent, short-form, indefinite-form}
+use Rattle.der.proofs.Checks.{memberFit}
 use Rattle.der.proofs.Elements.{good-within, elements-end, elements-broken, elements-turn}
-use Rattle.syntax.specs.Grammar.{obeyed, Syntax, free, end, obeys, optional, one, anyOptional, many, fit}
-use Rattle.syntax.proofs.Each.{Every, every-weaken, kept-then, kept-held, kept-fits, each-alike}
-use Rattle.syntax.proofs.Match.{optional-end, optional-broken, optional-other, optional-here, one-end, one-broken, one-turn}
-use Rattle.syntax.proofs.Match.{any-end, any-broken, any-turn}
+use Rattle.syntax.specs.Grammar.{obeyed, Syntax, free, end, obeys, optional, one, anyOptional, many, byElement, fit}
+use Rattle.syntax.proofs.Each.{Every, every-weaken, kept-fits, alike-if, alike-element, alike-then, alike-held, each-alike}
 use Rattle.syntax.proofs.Window.{Own, own-within, by-run, Member, members}
-use Rattle.syntax.proofs.Depth.{memberJudge, der-bad, der-constructed, der-primitive, spans-holds}
+use Rattle.syntax.proofs.Depth.{spans-holds}
 
 abbrev pub moved : ℕ → Element → Element
 moved a e = record { good = e .good; tag = e .tag; at = a + e .at; start = a + e .start; stop = a + e .stop }
@@ -49,6 +48,12 @@ leb-moved a i j =
     by-test (leb j i)
     (λ e. let l = leb-true j i e in le-leb (a + j) (a + i) (omega arith) ∙ sym e)
     (λ e. let l = leb-false j i e in lt-leb (a + j) (a + i) (omega arith) ∙ sym e)
+
+ltb-moved : (a i j : ℕ) → ltb (a + i) (a + j) ≡ ltb i j
+ltb-moved a i j =
+    by-test (ltb i j)
+    (λ e. let l = ltb-true i j e in lt-ltb (a + i) (a + j) (omega arith) ∙ sym e)
+    (λ e. let l = ltb-false i j e in le-ltb (a + i) (a + j) (omega arith) ∙ sym e)
 
 module _ (s : List ℕ) (a b : ℕ) (ab : a ≤ b) (bs : b ≤ length s) where
   length-here : length (part s a b) ≡ b - a
@@ -190,119 +195,64 @@ module _ (s : List ℕ) (a b : ℕ) (ab : a ≤ b) (bs : b ≤ length s) where
   der-moved zero e h = refl
   der-moved (suc d) e h =
       let t = part s a b in
-      by-test (e .good)
+      alike-if (e .good) _ _ _ _
       (λ g.
-      by-test (constructed (e .tag))
+      alike-if (constructed (e .tag)) _ _ _ _
       (λ c.
-      ap kept (der-constructed d s (moved a e) g c)
-      ∙ ap (λ (l : List Element). kept (each (memberJudge d s (moved a e)) l)) (elements-moved (e .start) (e .stop) h)
-      ∙ each-alike (moved a) (memberJudge d s (moved a e)) (memberJudge d t e) Here (λ _. refl)
-      (λ former m k l.
-      kept-then (der d s (moved a m)) (held (a + m .at) (sortedIn (e .tag) s (moved a former) (moved a m)))
-      ∙ ap₂ _&&_ (der-moved d m l)
-      (kept-held (a + m .at) (sortedIn (e .tag) s (moved a former) (moved a m))
-      ∙ sorted-moved e former m k l
-      ∙ sym (kept-held (m .at) (sortedIn (e .tag) t former m)))
-      ∙ sym (kept-then (der d t m) (held (m .at) (sortedIn (e .tag) t former m))))
+      ap (λ (l : List Element). kept (each (memberFit d s (e .tag)) l)) (elements-moved (e .start) (e .stop) h)
+      ∙ each-alike (moved a) (memberFit d s (e .tag)) (memberFit d t (e .tag)) Here (λ _. refl)
+      (λ former m k l. alike-then _ _ _ _ (der-moved d m l) (alike-held (a + m .at) (m .at) (sorted-moved e former m k l)))
       (inside t e)
-      (all-here (e .start) (e .stop) h)
-      ∙ ap kept (sym (der-constructed d t e g c)))
-      (λ c.
-      ap kept (der-primitive d s (moved a e) g c)
-      ∙ kept-held (a + e .at) (contentsOk (e .tag) (contents s (moved a e)))
-      ∙ ap (contentsOk (e .tag)) (contents-moved e h)
-      ∙ sym (kept-held (e .at) (contentsOk (e .tag) (contents t e)))
-      ∙ ap kept (sym (der-primitive d t e g c))))
-      (λ g. ap kept (der-bad d s (moved a e) g) ∙ ap kept (sym (der-bad d t e g)))
+      (all-here (e .start) (e .stop) h))
+      (λ c. alike-held (a + e .at) (e .at) (ap (contentsOk (e .tag)) (contents-moved e h))))
+      (λ g. refl)
 
   -- a window: what is charged where a part is missing makes no difference
   pub fit-moved : (g : Syntax) (i j outer other : ℕ) → j ≤ b - a → kept (fit g s (a + i) (a + j) outer) ≡ kept (fit g (part s a b) i j other)
   unfolding fit
   fit-moved free i j outer other jb = refl
-  fit-moved end i j outer other jb =
-      kept-held (a + i) (leb (a + j) (a + i)) ∙ leb-moved a i j ∙ sym (kept-held i (leb j i))
+  fit-moved end i j outer other jb = alike-held (a + i) i (leb-moved a i j)
   fit-moved (obeys r g) i j outer other jb =
-      let t = part s a b in
-      kept-then (fit g s (a + i) (a + j) outer) (held outer (obeyed r (part s (a + i) (a + j))))
-      ∙ ap₂ _&&_ (fit-moved g i j outer other jb)
-      (kept-held outer (obeyed r (part s (a + i) (a + j)))
-      ∙ ap (obeyed r) (sym (part-here i j (a + i) (a + j) refl refl jb))
-      ∙ sym (kept-held other (obeyed r (part t i j))))
-      ∙ sym (kept-then (fit g t i j other) (held other (obeyed r (part t i j))))
+      alike-then _ _ _ _ (fit-moved g i j outer other jb) (alike-held outer other (ap (obeyed r) (sym (part-here i j (a + i) (a + j) refl refl jb))))
   fit-moved (optional u g next) i j outer other jb =
-      let t = part s a b in
-      let e = elementAt t i j in
-      let q = sym (element-moved i j jb) in
-      by-test (ltb i j)
-      (λ m.
-      let l = ltb-true i j m in
-      let l' : a + i < a + j = omega arith in
-      by-test (e .good)
+      let e = elementAt (part s a b) i j in
+      ap (λ (x : Element).
+      kept
+      (byElement (ltb (a + i) (a + j)) (a + i) (x .good) (fit next s (a + i) (a + j) outer)
+      (elim (eqb (x .tag) u) [
+        | false ↦ fit next s (a + i) (a + j) outer
+        | true ↦ andThen (fit g s (x .start) (x .stop) (a + i)) (fit next s (x .stop) (a + j) outer)
+      ])))
+      (element-moved i j jb)
+      ∙ alike-element (ltb-moved a i j) (a + i) i (e .good) _ _ _ _ (fit-moved next i j outer other jb)
       (λ k.
-      let w = good-within t i j refl k in
-      by-test (eqb (e .tag) u)
-      (λ n.
-      ap kept (optional-here s (a + i) (a + j) outer q u g next l' k n)
-      ∙ kept-then (fit g s (a + e .start) (a + e .stop) (a + i)) (fit next s (a + e .stop) (a + j) outer)
-      ∙ ap₂ _&&_ (fit-moved g (e .start) (e .stop) (a + i) i (omega arith)) (fit-moved next (e .stop) j outer other jb)
-      ∙ sym (kept-then (fit g t (e .start) (e .stop) i) (fit next t (e .stop) j other))
-      ∙ ap kept (sym (optional-here t i j other refl u g next l k n)))
-      (λ n.
-      ap kept (optional-other s (a + i) (a + j) outer q u g next l' k n)
-      ∙ fit-moved next i j outer other jb
-      ∙ ap kept (sym (optional-other t i j other refl u g next l k n))))
-      (λ k. ap kept (optional-broken s (a + i) (a + j) outer q u g next l' k) ∙ ap kept (sym (optional-broken t i j other refl u g next l k))))
-      (λ m.
-      let l = ltb-false i j m in
-      ap kept (optional-end s (a + i) (a + j) outer q u g next (omega arith))
-      ∙ fit-moved next i j outer other jb
-      ∙ ap kept (sym (optional-end t i j other refl u g next l)))
+      let w = good-within (part s a b) i j refl k in
+      alike-if (eqb (e .tag) u) _ _ _ _
+      (λ n. alike-then _ _ _ _ (fit-moved g (e .start) (e .stop) (a + i) i (omega arith)) (fit-moved next (e .stop) j outer other jb))
+      (λ n. fit-moved next i j outer other jb))
   fit-moved (one g next) i j outer other jb =
-      let t = part s a b in
-      let e = elementAt t i j in
-      let q = sym (element-moved i j jb) in
-      by-test (ltb i j)
-      (λ m.
-      let l = ltb-true i j m in
-      let l' : a + i < a + j = omega arith in
-      by-test (e .good)
+      let e = elementAt (part s a b) i j in
+      ap (λ (x : Element).
+      kept
+      (byElement (ltb (a + i) (a + j)) (a + i) (x .good) (Breaks outer)
+      (andThen (fit g s (a + i) (x .stop) outer) (fit next s (x .stop) (a + j) outer))))
+      (element-moved i j jb)
+      ∙ alike-element (ltb-moved a i j) (a + i) i (e .good) _ _ _ _ refl
       (λ k.
-      let w = good-within t i j refl k in
-      ap kept (one-turn s (a + i) (a + j) outer q g next l' k)
-      ∙ kept-then (fit g s (a + i) (a + e .stop) outer) (fit next s (a + e .stop) (a + j) outer)
-      ∙ ap₂ _&&_ (fit-moved g i (e .stop) outer other (omega arith)) (fit-moved next (e .stop) j outer other jb)
-      ∙ sym (kept-then (fit g t i (e .stop) other) (fit next t (e .stop) j other))
-      ∙ ap kept (sym (one-turn t i j other refl g next l k)))
-      (λ k. ap kept (one-broken s (a + i) (a + j) outer q g next l' k) ∙ ap kept (sym (one-broken t i j other refl g next l k))))
-      (λ m.
-      let l = ltb-false i j m in
-      ap kept (one-end s (a + i) (a + j) outer q g next (omega arith)) ∙ ap kept (sym (one-end t i j other refl g next l)))
+      let w = good-within (part s a b) i j refl k in
+      alike-then _ _ _ _ (fit-moved g i (e .stop) outer other (omega arith)) (fit-moved next (e .stop) j outer other jb))
   fit-moved (anyOptional next) i j outer other jb =
-      let t = part s a b in
-      let e = elementAt t i j in
-      let q = sym (element-moved i j jb) in
-      by-test (ltb i j)
-      (λ m.
-      let l = ltb-true i j m in
-      let l' : a + i < a + j = omega arith in
-      by-test (e .good)
-      (λ k.
-      ap kept (any-turn s (a + i) (a + j) outer q next l' k)
-      ∙ fit-moved next (e .stop) j outer other jb
-      ∙ ap kept (sym (any-turn t i j other refl next l k)))
-      (λ k. ap kept (any-broken s (a + i) (a + j) outer q next l' k) ∙ ap kept (sym (any-broken t i j other refl next l k))))
-      (λ m.
-      let l = ltb-false i j m in
-      ap kept (any-end s (a + i) (a + j) outer q next (omega arith))
-      ∙ fit-moved next i j outer other jb
-      ∙ ap kept (sym (any-end t i j other refl next l)))
+      let e = elementAt (part s a b) i j in
+      ap (λ (x : Element).
+      kept (byElement (ltb (a + i) (a + j)) (a + i) (x .good) (fit next s (a + i) (a + j) outer) (fit next s (x .stop) (a + j) outer)))
+      (element-moved i j jb)
+      ∙ alike-element (ltb-moved a i j) (a + i) i (e .good) _ _ _ _ (fit-moved next i j outer other jb) (λ k. fit-moved next (e .stop) j outer other jb)
   fit-moved (many g) i j outer other jb =
-      let t = part s a b in
       let judge : Element → Element → Fit = λ former e. fit g s (e .at) (e .stop) outer in
       ap (λ (l : List Element). kept (each judge l)) (elements-moved i j jb)
-      ∙ each-alike (moved a) judge (λ former e. fit g t (e .at) (e .stop) other) Here (λ _. refl)
+      ∙ each-alike (moved a) judge (λ former e. fit g (part s a b) (e .at) (e .stop) other) Here (λ _. refl)
       (λ former e k l. fit-moved g (e .at) (e .stop) outer other l)
-      (elements t i j)
+      (elements (part s a b) i j)
       (all-here i j jb)
 
 -- an element and its octets alone

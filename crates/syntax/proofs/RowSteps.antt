@@ -1,11 +1,11 @@
--- A row's kind by number, one way through the matcher's tests at a time; and the loop of `many`.
+-- What a row stands for, by its kind, one way through the matcher's tests at a time; and the loop of `many`.
 use Prim.Native.Nat.{ℕ, _-_, _≤_, _<_}
 use native.Mathlib.Omega.{arith}
-use mathlib.Core.Bool.{true, false, _&&_, and-eq-true-iff, true≢false, false≢true}
+use mathlib.Core.Bool.{Bool, true, false, _&&_, and-eq-true-iff, true≢false}
 use mathlib.Core.List.{List, [], _∷_}
 use mathlib.Core.Path.{_≡_, refl, sym, ap, _∙_}
 use lib.Dec.{ltb, leb, eqb}
-use borrow.Author.Tests.{ltb-true, ltb-false, leb-true, le-ltb, le-leb, lt-leb, eq-eqb, ne-eqb, eqb-true, eqb-false}
+use borrow.Author.Tests.{ltb-true, ltb-false, leb-true, le-ltb, le-leb, lt-leb, eq-eqb, eqb-true, eqb-false}
 use Rattle.octets.specs.Octets.{part}
 use Rattle.octets.proofs.Lists.{by-test, both}
 use Rattle.der.specs.declared.Element.{Element}
@@ -13,15 +13,14 @@ use Rattle.der.specs.declared.Fit.{Fit}
 use Rattle.der.specs.declared.Fit.the-variants.{Fits, Breaks}
 use Rattle.der.specs.Element.{elementAt, elements}
 use Rattle.der.specs.Fit.{andThen, held, eachFrom, each}
-use Rattle.der.proofs.Elements.{good-within}
 use Rattle.der.proofs.Fits.{then-fits, then-breaks, held-fits, held-breaks, each-start, each-end, each-broken, each-breaks, each-turn}
-use Rattle.syntax.specs.Grammar.{obeyed, Syntax, end, optional, many, required, fit}
-use Rattle.syntax.specs.declared.Field.{Field}
-use Rattle.syntax.specs.declared.Field.the-variants as field
-use Rattle.syntax.specs.Rows.{argumentOf, bodyOf, nextOf, ruleOf, rowSyntax, grammarOf, isField, thenBehind, leftOut, byContents}
-use Rattle.syntax.proofs.Match.{optional-end, optional-broken, optional-other, optional-here, one-end, one-broken, one-turn, any-end, any-broken, any-turn}
-use Rattle.syntax.proofs.Window.{again}
-use Rattle.syntax.proofs.Rows.{Row, stands, first-fits, second-ends}
+use Rattle.syntax.specs.declared.row.Row.{Row}
+use Rattle.syntax.specs.declared.row.Field.{Field}
+use Rattle.syntax.specs.declared.row.Field.the-variants as field
+use Rattle.syntax.specs.Grammar.{obeyed, Syntax, end, optional, many, fit}
+use Rattle.syntax.specs.Rows.{ruleOf, rowSyntax, grammarOf, syntaxAt, isField, RowIs, RowOf, thenBehind, leftOut, byContents}
+use Rattle.syntax.proofs.Match.{Met, own-window, optional-end, one-end, any-end, optional-broken, one-broken, any-broken, optional-other, optional-here, one-turn, any-turn}
+use Rattle.syntax.proofs.Rows.{first-fits, second-ends}
 
 then-nothing : (f : Fit) → andThen f Fits ≡ f
 unfolding andThen
@@ -37,29 +36,20 @@ module _ (s : List ℕ) (at stop outer : ℕ) where
   unfolding fit
   end-breaks l = held-breaks at (lt-leb stop at l)
 
--- a required field: the element is read once
-module _ (t : ℕ) (g next : Syntax) (s : List ℕ) (at stop outer : ℕ) {e : Element} (q : e ≡ elementAt s at stop) (l : at < stop) (b : e .good ≡ true) where
-  required-other : (e .tag ≡ t → ⊥) → fit (required t g next) s at stop outer ≡ Breaks at
-  required-other n =
-      let w = good-within s at stop q b in
-      one-turn s at stop outer q (optional t g end) next l b
-      ∙ then-breaks (fit next s (e .stop) stop outer)
-      (optional-other s at (e .stop) outer (sym (again s at stop q b)) t g end (omega arith) b (ne-eqb (e .tag) t n)
-      ∙ end-breaks s at (e .stop) outer (omega arith))
+-- one field and then the end, in a window or, where the field is required, in that of its own element
+module _ (t : ℕ) (g : Syntax) {s : List ℕ} {at stop : ℕ} (outer : ℕ) {e : Element} (m : Met s at stop e) where
+  alone-other : (e .tag ≡ t → ⊥) → fit (optional t g end) s at stop outer ≡ Breaks at
+  alone-other n =
+      optional-other m outer t g end n ∙ end-breaks s at stop outer (m .room)
 
-  required-here : e .tag ≡ t → fit (required t g next) s at stop outer ≡ andThen (fit g s (e .start) (e .stop) at) (fit next s (e .stop) stop outer)
-  required-here n =
-      let w = good-within s at stop q b in
-      one-turn s at stop outer q (optional t g end) next l b
-      ∙ ap (λ (f : Fit). andThen f (fit next s (e .stop) stop outer))
-      (optional-here s at (e .stop) outer (sym (again s at stop q b)) t g end (omega arith) b (eq-eqb (e .tag) t n)
-      ∙ ap (andThen (fit g s (e .start) (e .stop) at)) (end-holds s (e .stop) (e .stop) outer (omega arith))
-      ∙ then-nothing (fit g s (e .start) (e .stop) at))
+  pub alone-here : e .tag ≡ t → stop ≤ e .stop → fit (optional t g end) s at stop outer ≡ fit g s (e .start) (e .stop) at
+  alone-here n l =
+      optional-here m outer t g end n
+      ∙ ap (andThen (fit g s (e .start) (e .stop) at)) (end-holds s (e .stop) stop outer l)
+      ∙ then-nothing (fit g s (e .start) (e .stop) at)
 
 -- the kinds of a field, one at a time
-by-field : (P : ℕ → Type 0) (kind : ℕ) → isField kind ≡ true → (kind ≡ 2 → P 2) → (kind ≡ 3 → P 3) → (kind ≡ 4 → P 4) → (kind ≡ 5 → P 5)
-    → P kind
-unfolding isField
+by-field : (P : ℕ → Type 0) (kind : ℕ) → isField kind ≡ true → (kind ≡ 2 → P 2) → (kind ≡ 3 → P 3) → (kind ≡ 4 → P 4) → (kind ≡ 5 → P 5) → P kind
 by-field P kind f a b c d =
     let two = and-eq-true-iff (leb 2 kind) (ltb kind 6) .0 f in
     let l = leb-true 2 kind (two .0) in
@@ -70,179 +60,165 @@ by-field P kind f a b c d =
     by-test (eqb kind 4) (by 4 c) (λ h4.
     by 5 d (eq-eqb kind 5 (omega (arith, eqb-false kind 2 h2, eqb-false kind 3 h3, eqb-false kind 4 h4))))))
 
-pub field-some : {kind : ℕ} → isField kind ≡ true → kind ≡ 0 → ⊥
-unfolding isField
-field-some f z = false≢true (sym (ap isField z) ∙ f)
+pub field-kind : (kind : ℕ) → isField kind ≡ true → 2 ≤ kind
+field-kind kind f = leb-true 2 kind (and-eq-true-iff (leb 2 kind) (ltb kind 6) .0 f .0)
 
 -- a kind that is no field's, nor free, end or many
-pub rule-kind : {kind : ℕ} → isField kind ≡ false → (kind ≡ 0 → ⊥) → (kind ≡ 1 → ⊥) → (kind ≡ 6 → ⊥) → 7 ≤ kind
-unfolding isField
-rule-kind {kind} f a b c =
+pub rule-kind : (kind : ℕ) → isField kind ≡ false → (kind ≡ 0 → ⊥) → (kind ≡ 1 → ⊥) → (kind ≡ 6 → ⊥) → 7 ≤ kind
+rule-kind kind f a b c =
     by-test (ltb kind 6)
     (λ t.
     let l : 2 ≤ kind = omega arith in
     absurd (true≢false (sym (both (le-leb 2 kind l) t) ∙ f)))
     (λ t. omega (arith, ltb-false kind 6 t))
 
--- a field, and what stands behind it
-
-module _ {x : Fit} {f : Field} (o s : List ℕ) (n stop outer : ℕ) (h : x ≡ thenBehind f (λ i. fit (grammarOf o n) s i stop outer)) where
-  pub behind-goes : {i next : ℕ} → f ≡ field.Behind i → next ≡ n → x ≡ fit (grammarOf o next) s i stop outer
-  unfolding thenBehind
-  behind-goes e k = rw k (rw e at h)
-
-  pub behind-breaks : {i : ℕ} → f ≡ field.Breaks i → x ≡ Breaks i
-  unfolding thenBehind
-  behind-breaks e = rw e at h
-
-contents-then : (f : Fit) (stop : ℕ) (rest : ℕ → Fit) → thenBehind (byContents f stop) rest ≡ andThen f (rest stop)
+contents-then : (f : Fit) (stop : ℕ) (rest : ℕ → Fit) → andThen f (rest stop) ≡ thenBehind (byContents f stop) rest
 unfolding thenBehind byContents andThen
 contents-then Fits stop rest = refl
 contents-then (Breaks i) stop rest = refl
 
--- an element stands at the place
-pub record Met (s : List ℕ) (at stop : ℕ) (e : Element) : Type 0 where
-  pub is : e ≡ elementAt s at stop
-  pub room : at < stop
-  pub good : e .good ≡ true
-
-pub met-own : {s : List ℕ} {e : Element} → e ≡ elementAt s (e .at) (e .stop) → e .good ≡ true → Met s (e .at) (e .stop) e
-met-own {s} {e} q g = let w = good-within s (e .at) (e .stop) q g in record { is = q; room = omega arith; good = g }
-
--- the answer for a row, by its kind
-module _ {table : List ℕ} {row kind : ℕ} (r : Row table row kind) (o s : List ℕ) (at stop outer : ℕ) where
+module _ {b : Bool} {table : List ℕ} {row : Row} (r : RowOf b table row) (o s : List ℕ) (at stop outer : ℕ) where
   abbrev tag : ℕ
-  tag = argumentOf table row
+  tag = row .argument
 
   abbrev body : Syntax
-  body = grammarOf o (bodyOf table row)
+  body = grammarOf o (row .body)
 
   abbrev next : Syntax
-  next = grammarOf o (nextOf table row)
-
-  abbrev answer : Fit
-  answer = fit (grammarOf o row) s at stop outer
+  next = grammarOf o (row .next)
 
   abbrev byKind : ℕ → Fit
   byKind k = fit (rowSyntax k tag o body next) s at stop outer
 
-  by-kind : (k : ℕ) → kind ≡ k → answer ≡ byKind k
-  by-kind k e = ap (λ (g : Syntax). fit g s at stop outer) (stands r o) ∙ ap byKind e
+  abbrev answer : Fit
+  answer = byKind (row .kind)
 
-  pub row-free : kind ≡ 0 → answer ≡ Fits
+  pub row-free : row .kind ≡ 0 → answer ≡ Fits
   unfolding rowSyntax fit
-  row-free e = by-kind 0 e
+  row-free e = ap byKind e
 
-  pub row-end : kind ≡ 1 → stop ≤ at → answer ≡ Fits
+  pub row-end : row .kind ≡ 1 → stop ≤ at → answer ≡ Fits
   unfolding rowSyntax
-  row-end e l = by-kind 1 e ∙ end-holds s at stop outer l
+  row-end e l = ap byKind e ∙ end-holds s at stop outer l
 
-  pub row-end-breaks : kind ≡ 1 → at < stop → answer ≡ Breaks at
+  pub row-end-breaks : row .kind ≡ 1 → at < stop → answer ≡ Breaks at
   unfolding rowSyntax
-  row-end-breaks e l = by-kind 1 e ∙ end-breaks s at stop outer l
+  row-end-breaks e l = ap byKind e ∙ end-breaks s at stop outer l
 
-  pub row-many : {b : ℕ} → b ≡ bodyOf table row → kind ≡ 6 → answer ≡ fit (many (grammarOf o b)) s at stop outer
+  pub row-many : row .kind ≡ 6 → answer ≡ fit (many body) s at stop outer
   unfolding rowSyntax
-  row-many h e = rw h (by-kind 6 e)
+  row-many e = ap byKind e
 
-  pub row-rule : {b n : ℕ} → b ≡ bodyOf table row → n ≡ argumentOf table row → 7 ≤ kind
-      → answer ≡ andThen (fit (grammarOf o b) s at stop outer) (held outer (obeyed (ruleOf (kind - 7) n o) (part s at stop)))
+  pub row-rule : 7 ≤ row .kind → answer ≡ andThen (fit body s at stop outer) (held outer (obeyed (ruleOf (row .kind - 7) tag o) (part s at stop)))
   unfolding rowSyntax fit
-  row-rule h k l = by-kind kind refl ∙ rw (le-ltb kind 7 l, rowSyntax, h, k)
-
-  -- a rule alone: its body is free
-  pub rule-alone : {b n : ℕ} {x : Fit} → b ≡ bodyOf table row → n ≡ argumentOf table row → leb 7 kind && eqb b 0 ≡ true
-      → x ≡ held outer (obeyed (ruleOf (kind - 7) n o) (part s at stop)) → answer ≡ x
-  rule-alone {b} h k t v =
-      let two = and-eq-true-iff (leb 7 kind) (eqb b 0) .0 t in
-      row-rule h k (leb-true 7 kind (two .0)) ∙ then-fits _ (first-fits o b (eqb-true b 0 (two .1)) s at stop outer) ∙ sym v
-
-  -- an optional field, and then the end
-  module _ {e : Element} (m : Met s at stop e) {n : ℕ} (v : n ≡ nextOf table row) (t : eqb kind 2 && eqb n 1 ≡ true) where
-    lone : answer ≡ fit (optional tag body end) s at stop outer
-    unfolding rowSyntax
-    lone =
-        let two = and-eq-true-iff (eqb kind 2) (eqb n 1) .0 t in
-        by-kind 2 (eqb-true kind 2 (two .0))
-        ∙ ap (λ (g : Syntax). fit (optional tag body g) s at stop outer) (second-ends o (nextOf table row) (sym v ∙ eqb-true n 1 (two .1)))
-
-    pub lone-other : (e .tag ≡ tag → ⊥) → answer ≡ Breaks at
-    lone-other h =
-        lone
-        ∙ optional-other s at stop outer (m .is) tag body end (m .room) (m .good) (ne-eqb (e .tag) tag h)
-        ∙ end-breaks s at stop outer (m .room)
-
-    pub lone-here : {b : ℕ} {x : Fit} → b ≡ bodyOf table row → x ≡ fit (grammarOf o b) s (e .start) (e .stop) at → e .tag ≡ tag → stop ≤ e .stop
-        → answer ≡ x
-    lone-here p q h l =
-        rw (q, p)
-        (lone
-        ∙ optional-here s at stop outer (m .is) tag body end (m .room) (m .good) (eq-eqb (e .tag) tag h)
-        ∙ ap (andThen (fit body s (e .start) (e .stop) at)) (end-holds s (e .stop) stop outer l)
-        ∙ then-nothing (fit body s (e .start) (e .stop) at))
+  row-rule l = rw (le-ltb (row .kind) 7 l, rowSyntax)
 
   -- a row of a field: the answer is that from the field on
-  module _ (f : isField kind ≡ true) where
-    abbrev from : Field → Fit
-    from g = thenBehind g (λ i. fit next s i stop outer)
+  abbrev from : Field → Fit
+  from g = thenBehind g (λ i. fit next s i stop outer)
 
-    by-row : (g : ℕ → Field) → (kind ≡ 2 → byKind 2 ≡ from (g 2)) → (kind ≡ 3 → byKind 3 ≡ from (g 3)) → (kind ≡ 4 → byKind 4 ≡ from (g 4))
-        → (kind ≡ 5 → byKind 5 ≡ from (g 5)) → answer ≡ from (g kind)
-    by-row g a b c d = by-kind kind refl ∙ by-field (λ k. byKind k ≡ from (g k)) kind f a b c d
+  by-row : b ≡ true → (g : ℕ → Field) → byKind 2 ≡ from (g 2) → byKind 3 ≡ from (g 3) → (row .kind ≡ 4 → byKind 4 ≡ from (g 4))
+      → (row .kind ≡ 5 → byKind 5 ≡ from (g 5)) → answer ≡ from (g (row .kind))
+  by-row f g a c d e = by-field (λ k. byKind k ≡ from (g k)) (row .kind) (r .field ∙ f) (λ z. a) (λ z. c) d e
 
-    -- no element is left
-    pub field-none : {g : Field} → g ≡ leftOut kind at outer → stop ≤ at → answer ≡ from g
-    unfolding rowSyntax thenBehind leftOut
-    field-none v l =
-        rw v
-        (by-row (λ k. leftOut k at outer)
-        (λ z. optional-end s at stop outer refl tag body next l)
-        (λ z. one-end s at stop outer refl (optional tag body end) next l)
-        (λ z. one-end s at stop outer refl body next l)
-        (λ z. any-end s at stop outer refl next l))
+  -- no element is left
+  pub field-none : b ≡ true → {g : Field} → g ≡ leftOut (row .kind) at outer → stop ≤ at → answer ≡ from g
+  unfolding rowSyntax thenBehind leftOut
+  field-none f v l =
+      rw v
+      (by-row f (λ k. leftOut k at outer)
+      (optional-end s at stop outer l tag body next)
+      (one-end s at stop outer l (optional tag body end) next)
+      (λ z. one-end s at stop outer l body next)
+      (λ z. any-end s at stop outer l next))
 
-    -- what stands there is no element
-    pub field-broken : {e : Element} → e ≡ elementAt s at stop → at < stop → e .good ≡ false → answer ≡ from (field.Breaks at)
+  -- what stands there is no element
+  pub field-broken : b ≡ true → {e : Element} → e ≡ elementAt s at stop → at < stop → e .good ≡ false → answer ≡ from (field.Breaks at)
+  unfolding rowSyntax thenBehind
+  field-broken f q l bad =
+      by-row f (λ k. field.Breaks at)
+      (optional-broken s at stop outer q l bad tag body next)
+      (one-broken s at stop outer q l bad (optional tag body end) next)
+      (λ z. one-broken s at stop outer q l bad body next)
+      (λ z. any-broken s at stop outer q l bad next)
+
+  module _ {e : Element} (m : Met s at stop e) where
+    pub field-any : row .kind ≡ 5 → answer ≡ from (field.Behind (e .stop))
     unfolding rowSyntax thenBehind
-    field-broken q l bad =
-        by-row (λ k. field.Breaks at)
-        (λ z. optional-broken s at stop outer q tag body next l bad)
-        (λ z. one-broken s at stop outer q (optional tag body end) next l bad)
-        (λ z. one-broken s at stop outer q body next l bad)
-        (λ z. any-broken s at stop outer q next l bad)
+    field-any h = ap byKind h ∙ any-turn m outer next
 
-    module _ {e : Element} (m : Met s at stop e) where
-      pub field-any : kind ≡ 5 → answer ≡ from (field.Behind (e .stop))
-      unfolding rowSyntax thenBehind
-      field-any h = by-kind 5 h ∙ any-turn s at stop outer (m .is) next (m .room) (m .good)
+    pub field-one : {x : Fit} {g : Field} → x ≡ fit body s at (e .stop) outer → g ≡ byContents x (e .stop) → row .kind ≡ 4 → answer ≡ from g
+    unfolding rowSyntax
+    field-one q v h = rw (v, q) (ap byKind h ∙ one-turn m outer body next ∙ contents-then _ _ _)
 
-      pub field-one : {b : ℕ} {x : Fit} {g : Field} → b ≡ bodyOf table row → x ≡ fit (grammarOf o b) s at (e .stop) outer → g ≡ byContents x (e .stop)
-          → kind ≡ 4 → answer ≡ from g
+    -- a required field is one of its own window
+    required-is : byKind 3 ≡ andThen (fit (optional tag body end) s at (e .stop) outer) (fit next s (e .stop) stop outer)
+    unfolding rowSyntax
+    required-is = one-turn m outer (optional tag body end) next
+
+    -- optional or required, by the tag
+    module _ (f : b ≡ true) (c : row .kind ≡ 5 → ⊥) (d : row .kind ≡ 4 → ⊥) where
+      pub field-other : {g : Field} → g ≡ leftOut (row .kind) at at → (e .tag ≡ tag → ⊥) → answer ≡ from g
+      unfolding rowSyntax thenBehind leftOut
+      field-other v h =
+          rw v
+          (by-row f (λ k. leftOut k at at)
+          (optional-other m outer tag body next h)
+          (required-is ∙ then-breaks _ (alone-other tag body outer (own-window m) h))
+          (λ z. absurd (d z))
+          (λ z. absurd (c z)))
+
+      pub field-here : {x : Fit} {g : Field} → x ≡ fit body s (e .start) (e .stop) at → g ≡ byContents x (e .stop) → e .tag ≡ tag → answer ≡ from g
       unfolding rowSyntax
-      field-one p q v h = rw (v, q, p) (by-kind 4 h ∙ one-turn s at stop outer (m .is) body next (m .room) (m .good) ∙ sym (contents-then _ _ _))
+      field-here q v h =
+          rw (v, q)
+          (by-row f (λ k. byContents (fit body s (e .start) (e .stop) at) (e .stop))
+          (optional-here m outer tag body next h ∙ contents-then _ _ _)
+          (required-is
+          ∙ ap (λ (f : Fit). andThen f (fit next s (e .stop) stop outer)) (alone-here tag body outer (own-window m) h (omega arith))
+          ∙ contents-then _ _ _)
+          (λ z. absurd (d z))
+          (λ z. absurd (c z)))
 
-      -- optional or required, by the tag
-      module _ (c : kind ≡ 5 → ⊥) (d : kind ≡ 4 → ⊥) where
-        pub field-other : {g : Field} → g ≡ leftOut kind at at → (e .tag ≡ tag → ⊥) → answer ≡ from g
-        unfolding rowSyntax thenBehind leftOut
-        field-other v h =
-            rw v
-            (by-row (λ k. leftOut k at at)
-            (λ z. optional-other s at stop outer (m .is) tag body next (m .room) (m .good) (ne-eqb (e .tag) tag h))
-            (λ z. required-other tag body next s at stop outer (m .is) (m .room) (m .good) h)
-            (λ z. absurd (d z))
-            (λ z. absurd (c z)))
+-- a row of the table, by what was read of it
+module _ {n : ℕ} {row : Row} (r : RowIs n row) (o s : List ℕ) (at stop outer : ℕ) where
+  pub row-stands : fit (grammarOf o n) s at stop outer ≡ fit (syntaxAt o row) s at stop outer
+  row-stands = ap (λ (g : Syntax). fit g s at stop outer) (r .stands o)
 
-        pub field-here : {b : ℕ} {x : Fit} {g : Field} → b ≡ bodyOf table row → x ≡ fit (grammarOf o b) s (e .start) (e .stop) at → g ≡ byContents x (e .stop)
-            → e .tag ≡ tag → answer ≡ from g
-        unfolding rowSyntax
-        field-here p q v h =
-            rw (v, q, p)
-            (by-row (λ k. byContents (fit body s (e .start) (e .stop) at) (e .stop))
-            (λ z. optional-here s at stop outer (m .is) tag body next (m .room) (m .good) (eq-eqb (e .tag) tag h) ∙ sym (contents-then _ _ _))
-            (λ z. required-here tag body next s at stop outer (m .is) (m .room) (m .good) h ∙ sym (contents-then _ _ _))
-            (λ z. absurd (d z))
-            (λ z. absurd (c z)))
+  -- a field, and what stands behind it
+  module _ {f : Field} (h : fit (syntaxAt o row) s at stop outer ≡ thenBehind f (λ i. fit (grammarOf o (row .next)) s i stop outer)) where
+    pub behind-goes : {i : ℕ} → f ≡ field.Behind i → fit (grammarOf o n) s at stop outer ≡ fit (grammarOf o (row .next)) s i stop outer
+    unfolding thenBehind
+    behind-goes e = row-stands ∙ (rw e at h)
+
+    pub behind-breaks : {i : ℕ} → f ≡ field.Breaks i → fit (grammarOf o n) s at stop outer ≡ Breaks i
+    unfolding thenBehind
+    behind-breaks e = row-stands ∙ (rw e at h)
+
+  -- a rule alone: its body is free
+  pub rule-alone : {x : Fit} → leb 7 (row .kind) && eqb (row .body) 0 ≡ true
+      → x ≡ held outer (obeyed (ruleOf (row .kind - 7) (row .argument) o) (part s at stop)) → fit (grammarOf o n) s at stop outer ≡ x
+  unfolding rowSyntax fit
+  rule-alone t v =
+      let two = and-eq-true-iff (leb 7 (row .kind)) (eqb (row .body) 0) .0 t in
+      row-stands
+      ∙ rw (le-ltb (row .kind) 7 (leb-true 7 (row .kind) (two .0)), rowSyntax) (then-fits _ (first-fits o s at stop outer (eqb-true (row .body) 0 (two .1))))
+      ∙ sym v
+
+  -- an optional field, and then the end
+  module _ (t : eqb (row .kind) 2 && eqb (row .next) 1 ≡ true) {e : Element} (m : Met s at stop e) where
+    lone : fit (grammarOf o n) s at stop outer ≡ fit (optional (row .argument) (grammarOf o (row .body)) end) s at stop outer
+    unfolding rowSyntax
+    lone =
+        let two = and-eq-true-iff (eqb (row .kind) 2) (eqb (row .next) 1) .0 t in
+        row-stands ∙ rw (second-ends o (eqb-true (row .next) 1 (two .1)), eqb-true (row .kind) 2 (two .0))
+
+    pub lone-other : (e .tag ≡ row .argument → ⊥) → fit (grammarOf o n) s at stop outer ≡ Breaks at
+    lone-other h = lone ∙ alone-other (row .argument) (grammarOf o (row .body)) outer m h
+
+    pub lone-here : e .tag ≡ row .argument → stop ≤ e .stop
+        → fit (grammarOf o n) s at stop outer ≡ fit (grammarOf o (row .body)) s (e .start) (e .stop) at
+    lone-here h l = lone ∙ alone-here (row .argument) (grammarOf o (row .body)) outer m h l
 
 -- The loop over a run: from an element on, the answer is that for the run from there. (The judge looks at the element alone.)
 
@@ -266,10 +242,10 @@ module _ (g : Syntax) (s : List ℕ) (at stop outer : ℕ) where
     pub many-broken : at < stop → e .good ≡ false → fit (many g) s at stop outer ≡ Breaks (e .at)
     many-broken l b = many-from ∙ each-broken member s at stop (elementAt s at stop) q l b
 
-    pub many-breaks : {i : ℕ} → e .good ≡ true → fit g s (e .at) (e .stop) outer ≡ Breaks i → fit (many g) s at stop outer ≡ Breaks i
-    unfolding member
-    many-breaks b j = many-from ∙ each-breaks member s at stop (elementAt s at stop) q b j
-
-    pub many-turn : e .good ≡ true → fit g s (e .at) (e .stop) outer ≡ Fits → fit (many g) s at stop outer ≡ fit (many g) s (e .stop) stop outer
-    unfolding fit member
-    many-turn b j = many-from ∙ each-turn member s at stop (elementAt s at stop) q b j ∙ member-from e (elements s (e .stop) stop)
+    pub many-turn : e .good ≡ true → fit (many g) s at stop outer ≡ andThen (fit g s (e .at) (e .stop) outer) (fit (many g) s (e .stop) stop outer)
+    unfolding fit member andThen
+    many-turn b = go (fit g s (e .at) (e .stop) outer) refl
+      where
+        go : (f : Fit) → fit g s (e .at) (e .stop) outer ≡ f → fit (many g) s at stop outer ≡ andThen f (fit (many g) s (e .stop) stop outer)
+        go Fits j = many-from ∙ each-turn member s at stop (elementAt s at stop) q b j ∙ member-from e (elements s (e .stop) stop)
+        go (Breaks i) j = many-from ∙ each-breaks member s at stop (elementAt s at stop) q b j

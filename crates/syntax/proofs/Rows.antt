@@ -1,5 +1,5 @@
 -- The table's rows: each names only rows above it, by one test over all of them, so a row stands for what its kind makes of the rows that it names.
-use Prim.Native.Nat.{ℕ, zero, suc, _-_, _≤_, _<_}
+use Prim.Native.Nat.{ℕ, zero, suc, _+_, _-_, _≤_, _<_}
 use native.Mathlib.Omega.{arith}
 use mathlib.Core.Bool.{Bool, true, _&&_, and-eq-true-iff}
 use mathlib.Core.List.{List}
@@ -8,9 +8,10 @@ use lib.Dec.{leb, eqb}
 use borrow.Author.Tests.{leb-true, eqb-true, eqb-false}
 use Rattle.octets.proofs.Lists.{by-test}
 use Rattle.der.specs.declared.Fit.the-variants.{Fits}
+use Rattle.syntax.specs.declared.row.Row.{Row}
 use Rattle.syntax.specs.Grammar.{free, end, fit}
 use Rattle.syntax.specs.Table.{count, rows}
-use Rattle.syntax.specs.Rows.{kindOf, argumentOf, bodyOf, nextOf, rowSyntax, grown, grammarOf}
+use Rattle.syntax.specs.Rows.{rowAt, rowSyntax, grown, grammarOf, RowIs}
 
 -- a test at each number below n, and what it shows at one of them
 unfoldable pub everyBelow : (ℕ → Bool) → ℕ → Bool
@@ -26,47 +27,19 @@ every-below f (suc n) e k l =
     (λ q. rw (eqb-true k n q) (h .0))
     (λ q. every-below f n (h .1) k (omega (arith, eqb-false k n q)))
 
--- a row names only rows above it (the first names itself, and its kind asks for neither)
-
+-- each row names only rows above it, by one test over all of them
 namesAbove : ℕ → Bool
-namesAbove row = leb (bodyOf rows row) (row - 1) && leb (nextOf rows row) (row - 1)
+namesAbove n =
+    let row = rowAt rows n in
+    leb (row .body) (n - 1) && (leb (row .next) (n - 1) && leb 1 (n + (1 - row .kind)))
 
-pub record Above (row : ℕ) : Type 0 where
-  pub body : bodyOf rows row ≤ row - 1
-  pub next : nextOf rows row ≤ row - 1
-
-above : (row : ℕ) → row < count → Above row
+above : (n : ℕ) → n < count → (rowAt rows n .body ≤ n - 1) × ((rowAt rows n .next ≤ n - 1) × (1 ≤ n + (1 - rowAt rows n .kind)))
 unfolding rows everyBelow namesAbove
-above row l =
-    let h = and-eq-true-iff (leb (bodyOf rows row) (row - 1)) (leb (nextOf rows row) (row - 1)) .0 (every-below namesAbove count refl row l) in
-    record { body = leb-true (bodyOf rows row) (row - 1) (h .0); next = leb-true (nextOf rows row) (row - 1) (h .1) }
-
-first-free : (row : ℕ) → (kindOf rows row ≡ 0 → ⊥) → 0 < row
-unfolding rows
-first-free zero h = absurd (h refl)
-first-free (suc row) h = omega arith
-
--- a row of the table as the code has it, whose kind has been read
-pub record Row (table : List ℕ) (row kind : ℕ) : Type 0 where
-  pub table-is : table ≡ rows
-  pub inside : row < count
-  pub kind-is : kind ≡ kindOf table row
-
-module _ {table : List ℕ} {row kind : ℕ} (r : Row table row kind) (h : kind ≡ 0 → ⊥) where
-  some-above : 0 < row
-  some-above = first-free row (λ z. h (r .kind-is ∙ ap (λ (t : List ℕ). kindOf t row) (r .table-is) ∙ z))
-
-  pub lower-body : {body : ℕ} → body ≡ bodyOf table row → body < row
-  lower-body b =
-      let a = above row (r .inside) .body in
-      let f = some-above in
-      rw (b, r .table-is) (omega arith)
-
-  pub lower-next : {next : ℕ} → next ≡ nextOf table row → next < row
-  lower-next n =
-      let a = above row (r .inside) .next in
-      let f = some-above in
-      rw (n, r .table-is) (omega arith)
+above n l =
+    let row = rowAt rows n in
+    let h = and-eq-true-iff (leb (row .body) (n - 1)) _ .0 (every-below namesAbove count refl n l) in
+    let k = and-eq-true-iff (leb (row .next) (n - 1)) _ .0 (h .1) in
+    (leb-true (row .body) (n - 1) (h .0), (leb-true (row .next) (n - 1) (k .0), leb-true 1 (n + (1 - row .kind)) (k .1)))
 
 -- more fuel changes nothing
 
@@ -80,38 +53,44 @@ step : (f g : ℕ) (o : List ℕ) → ((m : ℕ) → m ≤ f → m ≤ g → m <
 unfolding grown
 step f g o ih zero h k l = refl
 step f g o ih (suc n) h k l =
+    let row = rowAt rows (suc n) in
     let a = above (suc n) l in
-    ap₂ (rowSyntax (kindOf rows (suc n)) (argumentOf rows (suc n)) o)
-    (ih (bodyOf rows (suc n)) (omega (arith, a .body)) (omega (arith, a .body)) (omega (arith, a .body)))
-    (ih (nextOf rows (suc n)) (omega (arith, a .next)) (omega (arith, a .next)) (omega (arith, a .next)))
+    ap₂ (rowSyntax (row .kind) (row .argument) o)
+    (ih (row .body) (omega arith) (omega arith) (omega arith))
+    (ih (row .next) (omega arith) (omega arith) (omega arith))
 
 enough : (f g : ℕ) (o : List ℕ) (n : ℕ) → n ≤ f → n ≤ g → n < count → grown f o n ≡ grown g o n
 enough zero g o n h k l = let z : n ≡ 0 = omega arith in rw z (grown-first zero o ∙ sym (grown-first g o))
 enough (suc f) zero o n h k l = let z : n ≡ 0 = omega arith in rw z (grown-first (suc f) o ∙ sym (grown-first zero o))
 enough (suc f) (suc g) o n h k l = step f g o (enough f g o) n h k l
 
-row-is : (o : List ℕ) (row : ℕ) → row < count
-    → grammarOf o row
-    ≡ rowSyntax (kindOf rows row) (argumentOf rows row) o (grammarOf o (bodyOf rows row)) (grammarOf o (nextOf rows row))
+row-is : (n : ℕ) → n < count → RowIs n (rowAt rows n)
 unfolding rows rowSyntax grown
-row-is o zero l = refl
-row-is o (suc n) l =
+row-is zero l = record { stands = λ o. refl; lower-body = omega arith; lower-next = omega arith; first-free = omega arith }
+row-is (suc n) l =
+    let row = rowAt rows (suc n) in
     let a = above (suc n) l in
-    ap₂ (rowSyntax (kindOf rows (suc n)) (argumentOf rows (suc n)) o)
-    (enough n (bodyOf rows (suc n)) o (bodyOf rows (suc n)) (omega (arith, a .body)) (omega arith) (omega (arith, a .body)))
-    (enough n (nextOf rows (suc n)) o (nextOf rows (suc n)) (omega (arith, a .next)) (omega arith) (omega (arith, a .next)))
+    record {
+      stands =
+          λ o.
+          ap₂ (rowSyntax (row .kind) (row .argument) o)
+          (enough n (row .body) o (row .body) (omega arith) (omega arith) (omega arith))
+          (enough n (row .next) o (row .next) (omega arith) (omega arith) (omega arith));
+      lower-body = a .0;
+      lower-next = a .1 .0;
+      first-free = a .1 .1;
+    }
 
--- what a row stands for is what its kind makes of the rows that it names
-pub stands : {table : List ℕ} {row kind : ℕ} → Row table row kind → (o : List ℕ)
-    → grammarOf o row ≡ rowSyntax kind (argumentOf table row) o (grammarOf o (bodyOf table row)) (grammarOf o (nextOf table row))
-stands {row = row} r o = rw (r .kind-is, r .table-is) (row-is o row (r .inside))
+-- a row of the table, as the code reads it
+pub row-read : {table : List ℕ} {n : ℕ} {row : Row} → table ≡ rows → n < count → row ≡ rowAt table n → RowIs n row
+row-read {n = n} t l r = rw (r, t) (row-is n l)
 
 -- the first row is free
-pub first-fits : (o : List ℕ) (row : ℕ) → row ≡ 0 → (s : List ℕ) (at stop outer : ℕ) → fit (grammarOf o row) s at stop outer ≡ Fits
+pub first-fits : (o : List ℕ) {n : ℕ} (s : List ℕ) (at stop outer : ℕ) → n ≡ 0 → fit (grammarOf o n) s at stop outer ≡ Fits
 unfolding grown fit
-first-fits o row z s at stop outer = ap (λ (r : ℕ). fit (grammarOf o r) s at stop outer) z
+first-fits o s at stop outer z = ap (λ (r : ℕ). fit (grammarOf o r) s at stop outer) z
 
 -- the second is the end
-pub second-ends : (o : List ℕ) (row : ℕ) → row ≡ 1 → grammarOf o row ≡ end
+pub second-ends : (o : List ℕ) {n : ℕ} → n ≡ 1 → grammarOf o n ≡ end
 unfolding rows rowSyntax grown
-second-ends o row z = ap (grammarOf o) z
+second-ends o z = ap (grammarOf o) z

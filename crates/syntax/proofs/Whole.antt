@@ -17,15 +17,16 @@ use Rattle.der.specs.Check.{sortedIn, der, spans}
 use Rattle.der.proofs.Bools.{and-true, and-false}
 use Rattle.der.proofs.Elements.{good-within, elements-end, elements-turn}
 use Rattle.der.proofs.Checks.{memberFit, sorted-other, der-bad, der-run, spans-none, spans-one}
-use Rattle.syntax.specs.declared.Field.{Field}
-use Rattle.syntax.specs.declared.Field.the-variants as field
+use Rattle.syntax.specs.declared.row.Row.{Row}
+use Rattle.syntax.specs.declared.row.Field.{Field}
+use Rattle.syntax.specs.declared.row.Field.the-variants as field
 use Rattle.syntax.specs.Grammar.{obeyed, Syntax, many, fit}
-use Rattle.syntax.specs.Rows.{argumentOf, bodyOf, nextOf, ruleOf, grammarOf, isField, thenBehind, leftOut, byContents}
+use Rattle.syntax.specs.Rows.{ruleOf, grammarOf, syntaxAt, RowIs, RowOf, thenBehind, leftOut, byContents}
 use Rattle.syntax.specs.Whole.{derRun, conformsIn, behindIf, thenConforms, entered}
 use Rattle.syntax.proofs.Each.{kept-then, kept-held, kept-turn}
 use Rattle.syntax.proofs.Window.{again}
-use Rattle.syntax.proofs.Rows.{Row}
-use Rattle.syntax.proofs.RowSteps.{Met, row-free, row-end, row-end-breaks, row-many, row-rule, many-end, many-broken, many-breaks, many-turn}
+use Rattle.syntax.proofs.Match.{Met}
+use Rattle.syntax.proofs.RowSteps.{row-free, row-end, row-end-breaks, row-many, row-rule, many-end, many-broken, many-turn}
 use Rattle.syntax.proofs.RowSteps.{field-none, field-broken, field-any, field-one, field-other, field-here}
 
 swap : (a b c d : Bool) → (a && b) && (c && d) ≡ (a && c) && (b && d)
@@ -77,7 +78,7 @@ module _ (d : ℕ) (s : List ℕ) (at stop : ℕ) where
       where
         from-each : (es : List Element) → kept (eachFrom (λ former e. der d s e) e es) ≡ kept (each (λ former e. der d s e) es)
         from-each [] = refl
-        from-each (m ∷ es) = alike-from (λ former e. der d s e) (λ former e. der d s e) (λ f g e. refl) e m (m ∷ es)
+        from-each (m ∷ es) = refl
 
 -- an element alone in its window
 pub run-one : (d : ℕ) (s : List ℕ) (at stop : ℕ) {e : Element} → e ≡ elementAt s at stop → e .good ≡ true → derRun d s at (e .stop) ≡ kept (der d s e)
@@ -130,16 +131,19 @@ entered-is body tag d e =
     let three = and-eq-true-iff (not (eqb d 0)) (constructed tag) .0 (two .1) in
     (eqb-false tag 49 (not-true _ (two .0)), (eqb-false d 0 (not-true _ (three .0)), three .1))
 
--- a field and what stands behind it
+-- a row of the table, by what was read of it: a field and what stands behind it, or another row
+module _ {n : ℕ} {row : Row} (r : RowIs n row) (o s : List ℕ) (at stop d outer : ℕ) where
+  pub whole-stands : conformsIn d (grammarOf o n) s at stop outer ≡ conformsIn d (syntaxAt o row) s at stop outer
+  whole-stands = ap (λ (g : Syntax). conformsIn d g s at stop outer) (r .stands o)
 
-module _ {x : Bool} {f : Field} (o s : List ℕ) (n stop d outer : ℕ) (h : x ≡ thenConforms f (λ i. conformsIn d (grammarOf o n) s i stop outer)) where
-  pub conforms-on : {i next : ℕ} → f ≡ field.Behind i → next ≡ n → x ≡ conformsIn d (grammarOf o next) s i stop outer
-  unfolding thenConforms
-  conforms-on e k = rw k (rw e at h)
+  module _ {f : Field} (h : conformsIn d (syntaxAt o row) s at stop outer ≡ thenConforms f (λ i. conformsIn d (grammarOf o (row .next)) s i stop outer)) where
+    pub conforms-on : {i : ℕ} → f ≡ field.Behind i → conformsIn d (grammarOf o n) s at stop outer ≡ conformsIn d (grammarOf o (row .next)) s i stop outer
+    unfolding thenConforms
+    conforms-on e = whole-stands ∙ (rw e at h)
 
-  pub conforms-not : {i : ℕ} → f ≡ field.Breaks i → x ≡ false
-  unfolding thenConforms
-  conforms-not e = rw e at h
+    pub conforms-not : {i : ℕ} → f ≡ field.Breaks i → conformsIn d (grammarOf o n) s at stop outer ≡ false
+    unfolding thenConforms
+    conforms-not e = whole-stands ∙ (rw e at h)
 
 left-conforms : (kind at x y : ℕ) (d : ℕ → Bool) (f : ℕ → Fit)
     → d at && kept (thenBehind (leftOut kind at x) f) ≡ thenConforms (leftOut kind at y) (λ i. d i && kept (f i))
@@ -156,30 +160,33 @@ unfolding thenBehind byContents
 contents-kept Fits stop f = refl
 contents-kept (Breaks o) stop f = refl
 
-module _ {table : List ℕ} {row kind : ℕ} (r : Row table row kind) (o s : List ℕ) (at stop d outer : ℕ) where
+module _ {b : Bool} {table : List ℕ} {row : Row} (r : RowOf b table row) (o s : List ℕ) (at stop d outer : ℕ) where
   abbrev answer : Bool
-  answer = conformsIn d (grammarOf o row) s at stop outer
+  answer = conformsIn d (syntaxAt o row) s at stop outer
+
+  abbrev body : Syntax
+  body = grammarOf o (row .body)
 
   abbrev run : ℕ → Bool
   run i = derRun d s i stop
 
   abbrev next : ℕ → Fit
-  next i = fit (grammarOf o (nextOf table row)) s i stop outer
+  next i = fit (grammarOf o (row .next)) s i stop outer
 
   abbrev from : Field → Bool
   from g = thenConforms g (λ i. run i && kept (next i))
 
-  by-fit : {f : Fit} → fit (grammarOf o row) s at stop outer ≡ f → answer ≡ run at && kept f
+  by-fit : {f : Fit} → fit (syntaxAt o row) s at stop outer ≡ f → answer ≡ run at && kept f
   by-fit h = ap (λ (f : Fit). run at && kept f) h
 
   -- rows that are no field's
 
-  pub whole-free : kind ≡ 0 → {x : Fit} → x ≡ each (memberFit d s 0) (elements s at stop) → {b : Bool} → b ≡ kept x → b ≡ answer
+  pub whole-free : row .kind ≡ 0 → {x : Fit} → x ≡ each (memberFit d s 0) (elements s at stop) → {ok : Bool} → ok ≡ kept x → ok ≡ answer
   whole-free e v p =
       let n : _≡_ {A = ℕ} 0 49 → ⊥ = λ z. omega arith in
       p ∙ ap kept v ∙ run-free d s at stop 0 n ∙ sym (by-fit (row-free r o s at stop outer e) ∙ and-true (run at))
 
-  pub whole-end : kind ≡ 1 → leb stop at ≡ answer
+  pub whole-end : row .kind ≡ 1 → leb stop at ≡ answer
   whole-end e =
       by-test (leb stop at)
       (λ t.
@@ -189,63 +196,56 @@ module _ {table : List ℕ} {row kind : ℕ} (r : Row table row kind) (o s : Lis
       let l = leb-false stop at t in
       t ∙ sym (by-fit (row-end-breaks r o s at stop outer e l) ∙ and-false (run at)))
 
-  pub whole-many : {b : ℕ} → b ≡ bodyOf table row → kind ≡ 6 → conformsIn d (many (grammarOf o b)) s at stop outer ≡ answer
-  whole-many h e = sym (by-fit (row-many r o s at stop outer h e))
+  pub whole-many : row .kind ≡ 6 → conformsIn d (many body) s at stop outer ≡ answer
+  whole-many e = sym (by-fit (row-many r o s at stop outer e))
 
-  module _ {b n : ℕ} (h : b ≡ bodyOf table row) (k : n ≡ argumentOf table row) (l : 7 ≤ kind) where
-    whole-rule : answer ≡ conformsIn d (grammarOf o b) s at stop outer && obeyed (ruleOf (kind - 7) n o) (part s at stop)
-    whole-rule =
-        by-fit (row-rule r o s at stop outer h k l)
-        ∙ ap (λ (x : Bool). run at && x)
-        (kept-then (fit (grammarOf o b) s at stop outer) (held outer (obeyed (ruleOf (kind - 7) n o) (part s at stop)))
-        ∙ ap (λ (x : Bool). kept (fit (grammarOf o b) s at stop outer) && x) (kept-held outer (obeyed (ruleOf (kind - 7) n o) (part s at stop))))
-        ∙ sym (assoc (run at) (kept (fit (grammarOf o b) s at stop outer)) (obeyed (ruleOf (kind - 7) n o) (part s at stop)))
-
-    pub rule-not : conformsIn d (grammarOf o b) s at stop outer ≡ false → false ≡ answer
-    rule-not e = sym (whole-rule ∙ ap (λ (x : Bool). x && obeyed (ruleOf (kind - 7) n o) (part s at stop)) e)
-
-    pub rule-holds : conformsIn d (grammarOf o b) s at stop outer ≡ true → obeyed (ruleOf (kind - 7) n o) (part s at stop) ≡ answer
-    rule-holds e = sym (whole-rule ∙ ap (λ (x : Bool). x && obeyed (ruleOf (kind - 7) n o) (part s at stop)) e)
+  pub whole-rule : 7 ≤ row .kind → {x : Bool} → conformsIn d body s at stop outer ≡ x
+      → x && obeyed (ruleOf (row .kind - 7) (row .argument) o) (part s at stop) ≡ answer
+  whole-rule l e =
+      let f = fit body s at stop outer in
+      let ok = obeyed (ruleOf (row .kind - 7) (row .argument) o) (part s at stop) in
+      rw (← e)
+      (assoc (run at) (kept f) ok
+      ∙ ap (λ (x : Bool). run at && x) (sym (kept-then f (held outer ok) ∙ ap (λ (x : Bool). kept f && x) (kept-held outer ok)))
+      ∙ sym (by-fit (row-rule r o s at stop outer l)))
 
   -- rows of a field
 
-  module _ (f : isField kind ≡ true) where
-    pub whole-none : {g : Field} → g ≡ leftOut kind at at → stop ≤ at → answer ≡ from g
-    whole-none v l = rw v (by-fit (field-none r o s at stop outer f refl l) ∙ left-conforms kind at outer at run next)
+  pub whole-none : b ≡ true → {g : Field} → g ≡ leftOut (row .kind) at at → stop ≤ at → answer ≡ from g
+  whole-none f v l = rw v (by-fit (field-none r o s at stop outer f refl l) ∙ left-conforms (row .kind) at outer at run next)
 
-    pub whole-broken : {e : Element} → e ≡ elementAt s at stop → at < stop → e .good ≡ false → answer ≡ from (field.Breaks at)
-    unfolding thenBehind thenConforms
-    whole-broken q l bad = by-fit (field-broken r o s at stop outer f q l bad) ∙ and-false (run at)
+  pub whole-broken : b ≡ true → {e : Element} → e ≡ elementAt s at stop → at < stop → e .good ≡ false → answer ≡ from (field.Breaks at)
+  unfolding thenBehind thenConforms
+  whole-broken f q l bad = by-fit (field-broken r o s at stop outer f q l bad) ∙ and-false (run at)
 
-    module _ {e : Element} (m : Met s at stop e) where
-      -- the element is der, and what its contents give
-      by-element : (x : Fit) → fit (grammarOf o row) s at stop outer ≡ thenBehind (byContents x (e .stop)) next
-          → {ok : Bool} {g : Field} → ok ≡ kept (der d s e) && kept x → g ≡ behindIf ok (e .stop) → answer ≡ from g
-      by-element x h p v =
-          rw (v, p)
-          (ap₂ _&&_ (run-turn d s at stop (m .is) (m .good)) (ap kept h ∙ contents-kept x (e .stop) next)
-          ∙ swap (kept (der d s e)) (run (e .stop)) (kept x) (kept (next (e .stop)))
-          ∙ sym (if-conforms (kept (der d s e) && kept x) (e .stop) (λ i. run i && kept (next i))))
+  module _ {e : Element} (m : Met s at stop e) where
+    -- the element is der, and what its contents give
+    by-element : (x : Fit) → fit (syntaxAt o row) s at stop outer ≡ thenBehind (byContents x (e .stop)) next
+        → {ok : Bool} {g : Field} → ok ≡ kept (der d s e) && kept x → g ≡ behindIf ok (e .stop) → answer ≡ from g
+    by-element x h p v =
+        rw (v, p)
+        (ap₂ _&&_ (run-turn d s at stop (m .is) (m .good)) (ap kept h ∙ contents-kept x (e .stop) next)
+        ∙ swap (kept (der d s e)) (run (e .stop)) (kept x) (kept (next (e .stop)))
+        ∙ sym (if-conforms (kept (der d s e) && kept x) (e .stop) (λ i. run i && kept (next i))))
 
-      pub whole-any : kind ≡ 5 → {x : Fit} {ok : Bool} {g : Field} → x ≡ der d s e → ok ≡ kept x → g ≡ behindIf ok (e .stop) → answer ≡ from g
-      unfolding thenBehind byContents
-      whole-any h w p v = by-element Fits (field-any r o s at stop outer f m h) (p ∙ ap kept w ∙ sym (and-true (kept (der d s e)))) v
+    pub whole-any : row .kind ≡ 5 → {x : Fit} {ok : Bool} {g : Field} → x ≡ der d s e → ok ≡ kept x → g ≡ behindIf ok (e .stop) → answer ≡ from g
+    unfolding thenBehind byContents
+    whole-any h w p v = by-element Fits (field-any r o s at stop outer m h) (p ∙ ap kept w ∙ sym (and-true (kept (der d s e)))) v
 
-      pub whole-one : {b : ℕ} {ok : Bool} {g : Field} → b ≡ bodyOf table row → ok ≡ conformsIn d (grammarOf o b) s at (e .stop) outer
-          → g ≡ behindIf ok (e .stop) → kind ≡ 4 → answer ≡ from g
-      whole-one {b} h p v k =
-          let x = fit (grammarOf o b) s at (e .stop) outer in
-          by-element x (field-one r o s at stop outer f m h refl refl k)
-          (p ∙ ap (λ (y : Bool). y && kept x) (run-one d s at stop (m .is) (m .good)))
-          v
+    pub whole-one : {ok : Bool} {g : Field} → ok ≡ conformsIn d body s at (e .stop) outer → g ≡ behindIf ok (e .stop) → row .kind ≡ 4 → answer ≡ from g
+    whole-one p v k =
+        let x = fit body s at (e .stop) outer in
+        by-element x (field-one r o s at stop outer m refl refl k)
+        (p ∙ ap (λ (y : Bool). y && kept x) (run-one d s at stop (m .is) (m .good)))
+        v
 
-      module _ (c : kind ≡ 5 → ⊥) (n : kind ≡ 4 → ⊥) where
-        pub whole-other : {g : Field} → g ≡ leftOut kind at at → (e .tag ≡ argumentOf table row → ⊥) → answer ≡ from g
-        whole-other v h = rw v (by-fit (field-other r o s at stop outer f m c n refl h) ∙ left-conforms kind at at at run next)
+    module _ (f : b ≡ true) (c : row .kind ≡ 5 → ⊥) (n : row .kind ≡ 4 → ⊥) where
+      pub whole-other : {g : Field} → g ≡ leftOut (row .kind) at at → (e .tag ≡ row .argument → ⊥) → answer ≡ from g
+      whole-other v h = rw v (by-fit (field-other r o s at stop outer m f c n refl h) ∙ left-conforms (row .kind) at at at run next)
 
-        pub whole-here : {b : ℕ} {ok : Bool} {g : Field} → b ≡ bodyOf table row → e .tag ≡ argumentOf table row
-            → ok ≡ kept (der d s e) && kept (fit (grammarOf o b) s (e .start) (e .stop) at) → g ≡ behindIf ok (e .stop) → answer ≡ from g
-        whole-here {b} h t p v = by-element (fit (grammarOf o b) s (e .start) (e .stop) at) (field-here r o s at stop outer f m c n h refl refl t) p v
+      pub whole-here : e .tag ≡ row .argument → {ok : Bool} {g : Field} → ok ≡ kept (der d s e) && kept (fit body s (e .start) (e .stop) at)
+          → g ≡ behindIf ok (e .stop) → answer ≡ from g
+      whole-here t p v = by-element (fit body s (e .start) (e .stop) at) (field-here r o s at stop outer m f c n refl refl t) p v
 
 -- what the contents give, of an element that is entered and of one that is not
 module _ (g : Syntax) (s : List ℕ) (at stop d : ℕ) {e : Element} (m : Met s at stop e) {ok : Bool} where
@@ -268,21 +268,16 @@ module _ (g : Syntax) (s : List ℕ) (at stop d outer : ℕ) where
   whole-bad q l b = ap (λ (f : Fit). derRun d s at stop && kept f) (many-broken g s at stop outer q l b) ∙ and-false (derRun d s at stop)
 
   module _ {e : Element} (q : e ≡ elementAt s at stop) (b : e .good ≡ true) where
-    many-kept : (x : Fit) → fit g s (e .at) (e .stop) outer ≡ x → kept (fit (many g) s at stop outer) ≡ kept x && kept (fit (many g) s (e .stop) stop outer)
-    many-kept Fits h = ap kept (many-turn g s at stop outer q b h)
-    many-kept (Breaks i) h = ap kept (many-breaks g s at stop outer q b h)
-
     whole-turn : conformsIn d (many g) s at stop outer ≡ conformsIn d g s at (e .stop) outer && conformsIn d (many g) s (e .stop) stop outer
     whole-turn =
         let here : fit g s (e .at) (e .stop) outer ≡ fit g s at (e .stop) outer =
         ap (λ (i : ℕ). fit g s i (e .stop) outer) (good-within s at stop q b .here)
         in
-        ap₂ _&&_ (run-turn d s at stop q b) (many-kept (fit g s at (e .stop) outer) here)
+        ap₂ _&&_ (run-turn d s at stop q b)
+        (ap kept (many-turn g s at stop outer q b ∙ ap (λ (f : Fit). andThen f (fit (many g) s (e .stop) stop outer)) here)
+        ∙ kept-then (fit g s at (e .stop) outer) (fit (many g) s (e .stop) stop outer))
         ∙ swap (kept (der d s e)) (derRun d s (e .stop) stop) (kept (fit g s at (e .stop) outer)) (kept (fit (many g) s (e .stop) stop outer))
         ∙ ap (λ (x : Bool). (x && kept (fit g s at (e .stop) outer)) && conformsIn d (many g) s (e .stop) stop outer) (sym (run-one d s at stop q b))
 
-    pub whole-not : conformsIn d g s at (e .stop) outer ≡ false → conformsIn d (many g) s at stop outer ≡ false
-    whole-not h = whole-turn ∙ ap (λ (x : Bool). x && conformsIn d (many g) s (e .stop) stop outer) h
-
-    pub whole-goes : conformsIn d g s at (e .stop) outer ≡ true → conformsIn d (many g) s at stop outer ≡ conformsIn d (many g) s (e .stop) stop outer
+    pub whole-goes : {x : Bool} → conformsIn d g s at (e .stop) outer ≡ x → conformsIn d (many g) s at stop outer ≡ x && conformsIn d (many g) s (e .stop) stop outer
     whole-goes h = whole-turn ∙ ap (λ (x : Bool). x && conformsIn d (many g) s (e .stop) stop outer) h

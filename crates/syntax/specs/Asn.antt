@@ -7,9 +7,6 @@ use Rattle.syntax.specs.Grammar.{Syntax, free, end, obeys, optional, one
 use Rattle.syntax.specs.Grammar.{notEmpty, sizeTo, empty, equals, integerBut, seqNumber}
 
 -- Universal types: their contents are checked by status 1
-abbrev INTEGER : Syntax
-INTEGER = free
-
 abbrev BIT-STRING : Syntax
 BIT-STRING = free
 

@@ -52,6 +52,10 @@ pub data Syntax : Type 0 where
   -- elements up to the end, each by itself a window for g (SEQUENCE OF, SET OF)
   many : (g : Syntax) → Syntax
 
+-- at a place of a window: no element is left, what stands there is none, or one stands there
+abbrev pub byElement : Bool → ℕ → Bool → Fit → Fit → Fit
+byElement room at good none there = elim room [ false ↦ none | true ↦ elim good [ false ↦ Breaks at | true ↦ there ] ]
+
 -- Whether the window [at, stop), the contents of the element at `outer`, is as the syntax says. 02, E3: an element that may not stand at its place is charged itself, a missing part
 -- to the element that lacks it.
 unfoldable pub fit : Syntax → List ℕ → ℕ → ℕ → ℕ → Fit
@@ -60,34 +64,17 @@ fit end s at stop outer = held at (leb stop at)
 fit (obeys r g) s at stop outer = andThen (fit g s at stop outer) (held outer (obeyed r (part s at stop)))
 fit (optional t g next) s at stop outer =
     let e = elementAt s at stop in
-    elim (ltb at stop) [
+    byElement (ltb at stop) at (e .good) (fit next s at stop outer)
+    (elim (eqb (e .tag) t) [
       | false ↦ fit next s at stop outer
-      | true ↦
-          elim (e .good) [
-            | false ↦ Breaks at
-            | true ↦
-                elim (eqb (e .tag) t) [
-                  | false ↦ fit next s at stop outer
-                  | true ↦ andThen (fit g s (e .start) (e .stop) at) (fit next s (e .stop) stop outer)
-                ]
-          ]
-    ]
+      | true ↦ andThen (fit g s (e .start) (e .stop) at) (fit next s (e .stop) stop outer)
+    ])
 fit (one g next) s at stop outer =
     let e = elementAt s at stop in
-    elim (ltb at stop) [
-      | false ↦ Breaks outer
-      | true ↦
-          elim (e .good) [
-            | false ↦ Breaks at
-            | true ↦ andThen (fit g s at (e .stop) outer) (fit next s (e .stop) stop outer)
-          ]
-    ]
+    byElement (ltb at stop) at (e .good) (Breaks outer) (andThen (fit g s at (e .stop) outer) (fit next s (e .stop) stop outer))
 fit (anyOptional next) s at stop outer =
     let e = elementAt s at stop in
-    elim (ltb at stop) [
-      | false ↦ fit next s at stop outer
-      | true ↦ elim (e .good) [ false ↦ Breaks at | true ↦ fit next s (e .stop) stop outer ]
-    ]
+    byElement (ltb at stop) at (e .good) (fit next s at stop outer) (fit next s (e .stop) stop outer)
 fit (many g) s at stop outer = each (λ former e. fit g s (e .at) (e .stop) outer) (elements s at stop)
 
 -- a field that must be there

@@ -6,3 +6,4 @@ pub mod Table
 pub mod Rows
 pub mod TypeTable
 pub mod Whole
+pub mod Once

@@ -6,8 +6,8 @@ use lib.Dec.{eqb}
 use Rattle.der.specs.Element.{elements, constructed}
 use Rattle.der.specs.Fit.{kept, each}
 use Rattle.der.specs.Check.{der}
-use Rattle.syntax.specs.declared.Field.{Field}
-use Rattle.syntax.specs.declared.Field.the-variants as field
+use Rattle.syntax.specs.declared.row.Field.{Field}
+use Rattle.syntax.specs.declared.row.Field.the-variants as field
 use Rattle.syntax.specs.Grammar.{Syntax, fit}
 
 -- the elements of a window fill it and are DER, each with d levels left for it

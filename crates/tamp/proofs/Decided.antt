@@ -1,11 +1,8 @@
 -- What the rows decide of a message, and the answer to it.
-use Prim.Native.Nat.{ℕ, _≤_, _<_}
-use native.Mathlib.Omega.{arith}
+use Prim.Native.Nat.{ℕ}
 use mathlib.Core.List.{List}
 use mathlib.Core.Option.{some}
 use mathlib.Core.Path.{_≡_, sym, ap, _∙_}
-use lib.ListN.{length}
-use Rattle.octets.specs.Limits.{imageRoom}
 use Rattle.octets.specs.Octets.{Octets}
 use Rattle.store.specs.Store.{Store}
 use Rattle.store.specs.Image.{encode, decode}
@@ -16,27 +13,16 @@ use Rattle.protocol.specs.declared.Judgement.the-variants.{Refuses, Accepts}
 use Rattle.protocol.specs.Acceptance.{judgement}
 use Rattle.protocol.specs.Effect.{effect}
 use Rattle.protocol.specs.Call.{answered, guarded, refusalReply, answerOf}
-use Rattle.protocol.proofs.Statuses.{refusal-small}
 use Rattle.accept.specs.Judged.{judgedIn}
 use Rattle.accept.proofs.OfStore.{judged-store}
 use Rattle.tamp.specs.Left.{Left, leaves}
 use Rattle.tamp.specs.Given.{Rooms, Stored, Signed}
-use Rattle.tamp.proofs.Parts.{image-short}
 use Rattle.tamp.proofs.Signers.{signed}
 
 module _ (s image verdict : List ℕ) (o : Octets image) {j : Judgement} (f : j ≡ judgedIn image verdict s) where
   -- an image that decodes is judged by its store
   by-store : (σ : Store) → decode image ≡ some σ → j ≡ judgement σ verdict s
   by-store σ d = f ∙ judged-store image o σ d verdict s
-
-  -- a refusal is small, as its image
-  pub refusal-given : {reply next : List ℕ} → Rooms s reply next → (g : Stored image) → {r : Refusal} → j ≡ Refuses r
-      → Rooms s reply next × (r .status .number < 256) × (length image ≤ imageRoom)
-  refusal-given rooms g {r} e = (
-    rooms,
-    omega (arith, refusal-small (g .store) verdict s r (sym (by-store (g .store) (g .decodes)) ∙ e)),
-    image-short image (g .store) o (g .decodes),
-  )
 
   -- an accepted request has a signer in the store
   pub accepted-given : {reply next : List ℕ} → Rooms s reply next → (g : Stored image) → {q : Request} {i : ℕ} → j ≡ Accepts q i

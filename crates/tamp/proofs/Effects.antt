@@ -34,7 +34,6 @@ use Rattle.protocol.specs.Update.{Steps, steps}
 use Rattle.protocol.specs.Call.{answered, guarded, refusalReply}
 use Rattle.protocol.specs.Effect.{Effect, numberSet, withNumber, queryEffect, adjustEffect, communityEffect, updateEffect, effectOf, effect}
 use Rattle.protocol.proofs.Demand2.{steps-count}
-use Rattle.protocol.proofs.Statuses.{community-small}
 use Rattle.apply.specs.Scratch.{Holds, signerRights}
 use Rattle.apply.specs.Update.{codesOf}
 use Rattle.apply.specs.declared.Communities.{Communities}
@@ -120,13 +119,6 @@ module _ (s : List ℕ) (q : Request) (i : ℕ) (image said reply next : List �
       ∙ ap (λ (e : Effect). Leaving e reply next) (sym (moves σ d))
 
 -- Community Update
-
-pub status-small : (s : List ℕ) (q : Request) (σ : Store) {status : Status} → status ≡ communityEffect s q σ .status → status .number < 256
-unfolding communityEffect
-status-small s q σ e =
-    let updates = updatesIn s (q .body) (q .msgref) in
-    let remove = removeIn s updates in
-    omega (arith, ap (λ (status : Status). status .number) e, community-small (remove .good) (oidsIn s remove) (additionsIn s updates) (σ .communities))
 
 community-said : (s : List ℕ) (q : Request) (σ : Store) {m : List ℕ} {status : Status} → m ≡ whole s (q .msgref) → status ≡ communityEffect s q σ .status
     → communityConfirm m status ≡ communityEffect s q σ .reply

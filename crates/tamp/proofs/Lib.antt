@@ -6,4 +6,5 @@ pub mod Effects
 pub mod Verdicts
 pub mod Decided
 pub mod Demand3
+pub mod Demand2
 pub mod Desk

@@ -2,26 +2,26 @@
 use Prim.Native.Nat.{ℕ, suc, _+_, _≤_, _<_}
 use native.Mathlib.Omega.{arith}
 use mathlib.Core.Bool.{Bool, true, false, true≢false}
-use mathlib.Core.List.{List, _++_}
+use mathlib.Core.List.{List, _∷_}
 use mathlib.Core.Option.{some}
 use mathlib.Core.Path.{_≡_, sym, ap, ap₂, _∙_}
-use lib.ListN.{length, take, drop, getD, take-append-drop}
+use lib.ListN.{length, take, drop, getD}
 use lib.Seq.{split-at, length-take-le}
 use Rattle.octets.specs.Limits.{imageRoom}
 use Rattle.octets.specs.First.{givenIf}
 use Rattle.octets.specs.Octets.{Octets, placed}
-use Rattle.octets.proofs.Placed.{length-placed, take-behind-placed, drop-behind-placed}
+use Rattle.octets.proofs.Placed.{length-placed, take-behind-placed}
 use Rattle.der.specs.Element.{contents, field}
 use Rattle.store.specs.declared.Found.{Found}
 use Rattle.store.specs.declared.Found.the-variants as found
 use Rattle.store.specs.Store.{Store, anchors, identifiers}
 use Rattle.store.specs.Image.{encodeNumber, encode, decode, wellFormed}
-use Rattle.store.specs.Parts.{firstRecord, recordPlace}
+use Rattle.store.specs.Parts.{placeOf}
 use Rattle.store.specs.Signer.{signer}
 use Rattle.store.proofs.RoundTrip.{encode-decode, decode-wellFormed}
 use Rattle.store.proofs.Sizes.{length-encodeNumber, encode-length}
-use Rattle.edit.specs.Places.{placeOf}
-use Rattle.edit.proofs.Places.{place-inside, end-inside, image-length}
+use Rattle.store.proofs.Standing.{upTo, place-is, record-inside}
+use Rattle.edit.proofs.Replaced.{placed-twice}
 use Rattle.envelope.specs.declared.Refusal.{Refusal}
 use Rattle.message.specs.declared.Request.{Request}
 use Rattle.message.specs.declared.Received.{Received}
@@ -37,8 +37,7 @@ use Rattle.protocol.proofs.Lists.{given-next}
 use Rattle.protocol.proofs.Answer.{accepted-asks}
 use Rattle.protocol.proofs.WellFormed.{good-store, store-good, good-withNumber}
 use Rattle.accept.proofs.Anchors.{signer-anchor}
-use Rattle.apply.proofs.Edits.{set-number-step}
-use Rattle.apply.proofs.Image.{record-place}
+use Rattle.apply.proofs.Edits.{set-number-law}
 use Rattle.apply.specs.Scratch.{Holds, Scratch}
 use Rattle.tamp.specs.Given.{Signed, numberedBy, Writes, Renumbers}
 use Rattle.tamp.proofs.Parts.{image-short}
@@ -76,33 +75,30 @@ module _ (σ : Store) (s : List ℕ) {q : Request} {i : ℕ} where
 -- "its number becomes the signer's"
 module _ (s : List ℕ) (q : Request) (i : ℕ) (image : List ℕ) (os : Octets s) (oi : Octets image) (asks : received s ≡ Asks q) where
   module _ (σ : Store) (d : decode image ≡ some σ) (inside : i < length (anchors σ)) where
-    place-is : recordPlace image (firstRecord image) i ≡ placeOf σ i
-    place-is =
-        let e = encode-decode image σ oi d in
-        ap (λ (m : List ℕ). recordPlace m (firstRecord m) i) (sym e) ∙ record-place σ (decode-wellFormed image σ d) i (omega arith)
+    held : encode σ ≡ image
+    held = encode-decode image σ oi d
 
-    number-in : (next : List ℕ) → imageRoom ≤ length next → length image ≤ imageRoom
-        → take (length image) (placed (placed next 0 image) (placeOf σ i) (encodeNumber (some (seqNumIn s (q .msgref))))) ≡ encode (numberedBy s q i σ)
-    number-in next room short =
-        let z : 0 + length image ≡ length image = omega arith in
-        let held : take (length image) (placed next 0 image) ≡ encode σ =
-        ap (λ (k : ℕ). take k (placed next 0 image)) (sym z) ∙ take-behind-placed next 0 image (omega arith) ∙ sym (encode-decode image σ oi d)
-        in
-        let size = length-placed next 0 image (omega arith) in
-        set-number-step σ (placed next 0 image) (length image) held (omega arith) i (seqNumIn s (q .msgref)) inside
+    number-in : placed image (placeOf image i) (encodeNumber (some (seqNumIn s (q .msgref)))) ≡ encode (numberedBy s q i σ)
+    number-in =
+        ap (λ (m : List ℕ). placed m (placeOf m i) (encodeNumber (some (seqNumIn s (q .msgref))))) (sym held)
+        ∙ set-number-law σ (decode-wellFormed image σ d) i (seqNumIn s (q .msgref)) inside
 
     good-after : wellFormed (numberedBy s q i σ) ≡ true
     good-after =
         store-good (numberedBy s q i σ)
         (good-withNumber i (seqNumIn s (q .msgref)) σ (asked-number s q asks os) (good-store σ (decode-wellFormed image σ d)))
 
-    place-room : placeOf σ i + 9 ≤ length image
+    place-room : placeOf image i + 9 ≤ length image
     place-room =
         let l = anchors σ in
-        let n : length (take i l) ≡ i = length-take-le i l (omega arith) in
-        let h = place-inside σ (take i l) (drop (suc i) l) (getD l i (σ .apex)) (split-at l i (σ .apex) inside) .1 in
-        let p : placeOf σ (length (take i l)) ≡ placeOf σ i = ap (placeOf σ) n in
-        omega (arith, end-inside σ, ap length (encode-decode image σ oi d))
+        let g = decode-wellFormed image σ d in
+        let x = take i l in
+        let e = split-at l i (σ .apex) inside in
+        let n : length x ≡ i = length-take-le i l (omega arith) in
+        let p : placeOf image i ≡ upTo σ x =
+        ap₂ placeOf (sym held) (sym n) ∙ place-is σ g x (getD l i (σ .apex) ∷ drop (suc i) l) e
+        in
+        omega (arith, record-inside σ g x (drop (suc i) l) (getD l i (σ .apex)) e, ap length held)
 
 some-same : {A : Type 0} {x y : A} → some x ≡ some y → x ≡ y
 some-same e = cc
@@ -112,28 +108,14 @@ signed-inside s q i image g σ d =
     let e : g .store ≡ σ = some-same (sym (g .decodes) ∙ d) in
     rw e at (g .inside)
 
--- a write inside what was placed
-placed-inside : (d s t x : List ℕ) (p : ℕ) → length s ≤ length d → p + length x ≤ length s → length t ≡ length s
-    → take (length s) (placed (placed d 0 s) p x) ≡ t → placed (placed d 0 s) p x ≡ placed d 0 t
-unfolding placed
-placed-inside d s t x p room inside size e =
-    let b = placed d 0 s in
-    let z : length s ≡ 0 + length t = omega arith in
-    let k : length b ≡ length d = length-placed d 0 s (omega arith) in
-    let f : drop (length s) (placed b p x) ≡ drop (length s) d =
-    drop-behind-placed b p x (length s) inside (omega arith) ∙ drop-behind-placed d 0 s (length s) (omega arith) (omega arith)
-    in
-    sym (take-append-drop (length s) (placed b p x)) ∙ ap₂ _++_ e (f ∙ ap (λ (k : ℕ). drop k d) z)
-
 module _ (s : List ℕ) (q : Request) (i : ℕ) (image next : List ℕ) (os : Octets s) (oi : Octets image) (g : Signed s q i image) (room : imageRoom ≤ length next) where
   pub copy-fits : 0 + length image ≤ length next
   copy-fits = omega (arith, image-short image (g .store) oi (g .decodes))
 
-  module _ {next′ : List ℕ} {p : ℕ} (w : next′ ≡ placed next 0 image) (e : p ≡ recordPlace image (firstRecord image) i) where
+  module _ {next′ : List ℕ} {p : ℕ} (w : next′ ≡ placed next 0 image) (e : p ≡ placeOf image i) where
     pub number-fits : p + 9 ≤ length next′
     number-fits =
         let h = place-room s q i image os oi (g .asks) (g .store) (g .decodes) (g .inside) in
-        let k = place-is s q i image os oi (g .asks) (g .store) (g .decodes) (g .inside) in
         omega (arith, ap length w, length-placed next 0 image copy-fits, image-short image (g .store) oi (g .decodes))
 
     pub renumber-done : {n : ℕ} {next″ : List ℕ} → n ≡ readNumber s (field 0x02 s (q .msgref)) → next″ ≡ placed next′ p (encodeNumber (some n))
@@ -141,24 +123,18 @@ module _ (s : List ℕ) (q : Request) (i : ℕ) (image next : List ℕ) (os : Oc
     renumber-done {n} {next″} f x σ d =
         let inside = signed-inside s q i image g σ d in
         let number = encodeNumber (some (seqNumIn s (q .msgref))) in
-        let b = placed next 0 image in
-        let all : next″ ≡ placed b (placeOf σ i) number =
-        x
-        ∙ ap (λ (b : List ℕ). placed b p (encodeNumber (some n))) w
-        ∙ ap₂ (λ (a m : ℕ). placed b a (encodeNumber (some m))) (e ∙ place-is s q i image os oi (g .asks) σ d inside) (f ∙ asked-seqNum s q (g .asks))
-        in
-        let held = number-in s q i image os oi (g .asks) σ d inside next room (image-short image σ oi d) in
-        let k = place-room s q i image os oi (g .asks) σ d inside in
         let l = length-encodeNumber (some (seqNumIn s (q .msgref))) in
-        let c = length-placed next 0 image copy-fits in
-        let z = length-placed b (placeOf σ i) number (omega (arith, copy-fits)) in
-        let size : length (encode (numberedBy s q i σ)) ≡ length image =
-        image-length (numberedBy s q i σ) (placed b (placeOf σ i) number) (length image) held (omega (arith, copy-fits))
-        in
+        let h = place-room s q i image os oi (g .asks) σ d inside in
+        let k = number-in s q i image os oi (g .asks) σ d inside in
         record {
           good = good-after s q i image os oi (g .asks) σ d inside;
-          size = sym size;
-          octets = all ∙ placed-inside next image _ number (placeOf σ i) (omega (arith, copy-fits)) (omega arith) size held;
+          size = sym (ap length (sym k) ∙ length-placed image (placeOf image i) number (omega arith));
+          octets =
+              x
+              ∙ ap₂ (λ (b : List ℕ) (m : ℕ). placed b p (encodeNumber (some m))) w (f ∙ asked-seqNum s q (g .asks))
+              ∙ ap (λ (a : ℕ). placed (placed next 0 image) a number) e
+              ∙ placed-twice next image (placeOf image i) number copy-fits (omega arith)
+              ∙ ap (placed next 0) k;
         }
 
 -- the buffer that was written is a scratch image

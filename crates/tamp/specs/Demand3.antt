@@ -11,10 +11,9 @@ use Rattle.rights.specs.Rights.{Content}
 use Rattle.store.specs.Store.{Store}
 use Rattle.store.specs.Image.{decode}
 use Rattle.store.specs.Records.{recordsOf}
-use Rattle.protocol.specs.Call.{call}
 use Rattle.protocol.specs.Demand3.{Given, Unauthorised, authorising}
 use Rattle.tamp.specs.declared.Answer.{Answer}
-use Rattle.tamp.specs.Left.{left, leaves}
+use Rattle.tamp.specs.Left.{Promise}
 
 -- a call as it was made: what it was given besides the image, the buffers lent, what it answered, and what it left in the buffers
 pub record Made : Type 0 where
@@ -27,11 +26,9 @@ pub record Made : Type 0 where
   pub replyAfter : List ℕ
   pub nextAfter : List ℕ
 
--- the promise of `tamp_call`, word for word
+-- it kept the promise of `tamp_call`
 abbrev pub Promised : List ℕ → Made → Type 0
-Promised image m =
-    left (m .answer) (m .replyAfter) (m .nextAfter)
-    ≡ leaves (call (m .message) image (m .verdict) (length (m .reply)) (length (m .next))) (m .reply) (m .next)
+Promised image m = Promise (m .message) image (m .verdict) (m .reply) (m .next) (m .answer) (m .replyAfter) (m .nextAfter)
 
 -- "A call leaves its next store, or after a house refusal the store it was given": the host reads it from the answer and the buffer
 unfoldable pub leftOf : List ℕ → Made → List ℕ

@@ -9,7 +9,7 @@ use Rattle.store.specs.Store.{Store}
 use Rattle.store.specs.Image.{encode, decode}
 use Rattle.message.specs.declared.Request.{Request}
 use Rattle.protocol.specs.Effect.{effect}
-use Rattle.protocol.specs.Call.{Outcome, answered, guarded, numberOf, replyOf, nextOf, replyBuffer, nextBuffer}
+use Rattle.protocol.specs.Call.{Outcome, answered, guarded, call, numberOf, replyOf, nextOf, replyBuffer, nextBuffer}
 use Rattle.tamp.specs.declared.Answer.{Answer}
 
 -- the number, both lengths, and every octet of both buffers
@@ -34,6 +34,11 @@ leaves o reply next =
       reply = replyBuffer o reply;
       next = nextBuffer o next;
     }
+
+-- the promise of `tamp_call`, here and in its source: number, both lengths and every octet of both lent buffers are what the rule book's call leaves
+abbrev pub Promise : List ℕ → List ℕ → List ℕ → List ℕ → List ℕ → Answer → List ℕ → List ℕ → Type 0
+Promise message image verdict reply next r reply′ next′ =
+    left r reply′ next′ ≡ leaves (call message image verdict (length reply) (length next)) reply next
 
 -- the two constructors of an answer
 abbrev pub refusal : Status → Answer

@@ -17,8 +17,8 @@ ghost use Rattle.store.specs.Image.{decode};
 ghost use Rattle.reply.specs.Replies.{tampError, updateConfirm};
 ghost use Rattle.reply.specs.Parts.{statusOf};
 ghost use Rattle.protocol.specs.Acceptance.{judgement};
-ghost use Rattle.protocol.specs.Call.{answerOf, guarded, refusalReply, call};
-ghost use Rattle.tamp.specs.Left.{left, leaves, refusal as refusalOf, answer as answerWith, Answers, AnswersTo};
+ghost use Rattle.protocol.specs.Call.{answerOf, guarded, refusalReply};
+ghost use Rattle.tamp.specs.Left.{left, leaves, Promise, refusal as refusalOf, answer as answerWith, Answers, AnswersTo};
 ghost use Rattle.tamp.specs.Given.{isVerdict, Rooms, Stored, Signed, Renumbers};
 use der::Element;
 use envelope::Refusal;
@@ -41,7 +41,7 @@ impl Answer {
         ensures { λ r. ⌜ r ≡ refusalOf status ⌝ }
     {
         Answer {
-            number: status.number,
+            number: status.number as u32,
             reply_len: 0,
             next_len: 0,
         }
@@ -52,7 +52,7 @@ impl Answer {
         ensures { λ r. ⌜ r ≡ answerWith status reply next ⌝ }
     {
         Answer {
-            number: status.number,
+            number: status.number as u32,
             reply_len: reply as u64,
             next_len: next as u64,
         }
@@ -113,7 +113,7 @@ fn error(
     reply: &mut [u8],
     next: &mut [u8],
 ) -> Answer
-    requires { ⌜ Rooms (now s) (now reply) (now next) × (status .number < 256) × (length (now store) ≤ imageRoom) ⌝ }
+    requires { ⌜ Rooms (now s) (now reply) (now next) × (length (now store) ≤ imageRoom) ⌝ }
     ensures { λ r.
         ⌜ Answers
         status
@@ -136,7 +136,7 @@ fn error(
 
 // "Statuses 1, 2, 3 and 4 have no reply (length 0). The rest reply with a TAMP Error". The store stays.
 fn refuse(s: &[u8], r: Refusal, image: &[u8], reply: &mut [u8], next: &mut [u8]) -> Answer
-    requires { ⌜ Rooms (now s) (now reply) (now next) × (r .status .number < 256) × (length (now image) ≤ imageRoom) ⌝ }
+    requires { ⌜ Rooms (now s) (now reply) (now next) × (length (now image) ≤ imageRoom) ⌝ }
     ensures { λ a.
         ⌜ Answers
         (r .status)
@@ -372,16 +372,15 @@ pub extern "C" fn tamp_call(
     next: &mut [u8],
 ) -> Answer
     ensures { λ r.
-        ⌜ left r (now (reply .exit)) (now (next .exit))
-        ≡ leaves
-        (call
+        ⌜ Promise
         (now (message .entry))
         (now (image .entry))
         (now (verdict .entry))
-        (length (now (reply .entry)))
-        (length (now (next .entry))))
         (now (reply .entry))
-        (now (next .entry)) ⌝ }
+        (now (next .entry))
+        r
+        (now (reply .exit))
+        (now (next .exit)) ⌝ }
 {
     let status = Status::SUCCESS
         .or_if(!image::is_image(image), Status::BAD_IMAGE)

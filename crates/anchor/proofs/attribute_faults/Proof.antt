@@ -5,7 +5,7 @@ use Rattle.anchor.proofs.attribute_faults.Statement.{statement}
 use Rattle.anchor.proofs.attribute_faults.Tie as tie
 
 returns : tie.Need-returns
-returns c = attribute-faults _ _ (c .before .before .before .field .ensures) (c .before .before .is-distinct .ensures) (c .before .more-than .ensures) (c .has-long .ensures)
+returns c = attribute-faults _ _ (c .before .before .before .field .ensures) (c .before .before .are-distinct .ensures) (c .before .more-than .ensures) (c .has-long .ensures)
 
 pub attribute-faults-spec : {M : Type 1} → statement M
 attribute-faults-spec =

@@ -4,9 +4,6 @@ use Rattle.anchor.specs.Info.{extensions, constraintsExtension}
 use Rattle.anchor.proofs.constraints_extension.Statement.{statement}
 use Rattle.anchor.proofs.constraints_extension.Tie as tie
 
-returns : tie.Need-returns
-unfolding constraintsExtension extensions
-returns c = rw (c .constraints-in .ensures, c .before .extension-list .ensures)
-
 pub constraints-extension-spec : {M : Type 1} → statement M
-constraints-extension-spec = tie.close (tie.spec (λ c κs. search needs) (λ c κs. search needs) returns)
+unfolding constraintsExtension extensions
+constraints-extension-spec = tie.close (tie.spec (λ c κs. search needs) (λ c κs. search needs) (λ c. rw (c .constraints-in .ensures, c .before .extension-list .ensures)))

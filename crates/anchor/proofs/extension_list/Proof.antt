@@ -3,8 +3,5 @@ use borrow.Author.Needs.{needs}
 use Rattle.anchor.proofs.extension_list.Statement.{statement}
 use Rattle.anchor.proofs.extension_list.Tie as tie
 
-returns : tie.Need-returns
-returns c = rw (c .field2 .ensures, c .before .field .ensures, c .before .before .root .ensures)
-
 pub extension-list-spec : {M : Type 1} → statement M
-extension-list-spec = tie.close (tie.spec (λ c κs. search needs) (λ c κs. search needs) (λ c κs. search needs) returns)
+extension-list-spec = tie.close (tie.spec (λ c κs. search needs) (λ c κs. search needs) (λ c κs. search needs) (λ c. rw (c .field2 .ensures, c .before .field .ensures, c .before .before .root .ensures)))

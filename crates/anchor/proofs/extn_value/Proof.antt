@@ -3,8 +3,5 @@ use borrow.Author.Needs.{needs}
 use Rattle.anchor.proofs.extn_value.Statement.{statement}
 use Rattle.anchor.proofs.extn_value.Tie as tie
 
-returns : tie.Need-returns
-returns c = rw (c .contents .ensures, c .before .field .ensures)
-
 pub extn-value-spec : {M : Type 1} → statement M
-extn-value-spec = tie.close (tie.spec (λ c κs. search needs) (λ c κs. search needs) returns)
+extn-value-spec = tie.close (tie.spec (λ c κs. search needs) (λ c κs. search needs) (λ c. rw (c .contents .ensures, c .before .field .ensures)))

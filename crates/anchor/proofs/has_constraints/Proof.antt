@@ -5,8 +5,5 @@ use Rattle.der.specs.declared.Element.{Element}
 use Rattle.anchor.proofs.has_constraints.Statement.{statement}
 use Rattle.anchor.proofs.has_constraints.Tie as tie
 
-returns : tie.Need-returns
-returns c = ap (λ (x : Element). x .good) (c .constraints-extension .ensures)
-
 pub has-constraints-spec : {M : Type 1} → statement M
-has-constraints-spec = tie.close (tie.spec (λ c κs. search needs) returns)
+has-constraints-spec = tie.close (tie.spec (λ c κs. search needs) (λ c. ap (λ (x : Element). x .good) (c .constraints-extension .ensures)))

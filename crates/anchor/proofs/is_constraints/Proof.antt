@@ -5,10 +5,7 @@ use Rattle.der.specs.Oid.{oid, arc, arcs}
 use Rattle.anchor.proofs.is_constraints.Statement.{statement}
 use Rattle.anchor.proofs.is_constraints.Tie as tie
 
-returns : tie.Need-returns
-unfolding oid arc arcs digits
-returns c = rw (c .equal .ensures, c .before .before .type-of .ensures)
-
 pub is-constraints-spec : {M : Type 1} → statement M
+unfolding oid arc arcs digits
 is-constraints-spec =
-    tie.close (tie.spec (λ c κs. search needs) (λ c. search needs) (λ c κs. search needs) returns)
+    tie.close (tie.spec (λ c κs. search needs) (λ c. search needs) (λ c κs. search needs) (λ c. rw (c .equal .ensures, c .before .before .type-of .ensures)))

@@ -10,10 +10,7 @@ returns : tie.Need-returns
 unfolding formSyntax
 returns c = storable-is _ (c .before .before .before .before .before .conforms .ensures) (c .before .before .before .before .if1 .taken) (c .before .before .before .judge .ensures) (c .before .before .status .ensures)
 
-returns-2 : tie.Need-returns-2
-unfolding formSyntax
-returns-2 c = sym (storable-not _ (c .before .conforms .ensures) (c .if1 .left))
-
 pub is-storable-spec : {M : Type 1} → statement M
+unfolding formSyntax
 is-storable-spec =
-    tie.close (tie.spec (λ c κs. search needs) (λ c κs. search needs) (λ c κs. search needs) returns returns-2)
+    tie.close (tie.spec (λ c κs. search needs) (λ c κs. search needs) (λ c κs. search needs) returns (λ c. sym (storable-not _ (c .before .conforms .ensures) (c .if1 .left))))

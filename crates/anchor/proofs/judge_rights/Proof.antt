@@ -39,18 +39,6 @@ past-7 c = passed (past-6 (c .before)) (values-is _ (c .before .before .before .
 past-8 : (c : tie.Else8) → PastOf 8 (c .before .before .before .before .before .before .before .before .before .before .before .before .before)
 past-8 c = passed (past-7 (c .before)) (octets-is _ (c .before .before .before .before .before .before .before .before .before .rights-faults .ensures) ∙ c .if8 .left)
 
-returns : tie.Need-returns
-returns c = given (past-0 (c .before .before .before .before .before)) (repeated-is _ (c .before .rights-faults .ensures) ∙ c .if1 .taken)
-
-returns-2 : tie.Need-returns-2
-returns-2 c = given (past-1 (c .before)) (unlike-is _ (c .before .before .rights-faults .ensures) ∙ c .if2 .taken)
-
-returns-3 : tie.Need-returns-3
-returns-3 c = given (past-2 (c .before)) (lt-ltb _ _ (c .if3 .taken))
-
-returns-4 : tie.Need-returns-4
-returns-4 c = given (past-3 (c .before .before)) (sym (c .before .identifier-outside .ensures) ∙ c .if4 .taken)
-
 returns-5 : tie.Need-returns-5
 returns-5 c = given (past-4 (c .before)) (entries-is _ (c .before .before .before .before .before .before .rights-faults .ensures) ∙ c .if5 .taken)
 
@@ -63,21 +51,18 @@ returns-7 c = given (past-6 (c .before)) (values-is _ (c .before .before .before
 returns-8 : tie.Need-returns-8
 returns-8 c = given (past-7 (c .before)) (octets-is _ (c .before .before .before .before .before .before .before .before .before .rights-faults .ensures) ∙ c .if8 .taken)
 
-returns-9 : tie.Need-returns-9
-returns-9 c = given-last (past-8 c)
-
 pub judge-rights-spec : {M : Type 1} → statement M
 judge-rights-spec =
     tie.close
     (tie.spec
     (λ c κs. search needs)
-    returns
-    returns-2
-    returns-3
+    (λ c. given (past-0 (c .before .before .before .before .before)) (repeated-is _ (c .before .rights-faults .ensures) ∙ c .if1 .taken))
+    (λ c. given (past-1 (c .before)) (unlike-is _ (c .before .before .rights-faults .ensures) ∙ c .if2 .taken))
+    (λ c. given (past-2 (c .before)) (lt-ltb _ _ (c .if3 .taken)))
     (λ c κs. search needs)
-    returns-4
+    (λ c. given (past-3 (c .before .before)) (sym (c .before .identifier-outside .ensures) ∙ c .if4 .taken))
     returns-5
     returns-6
     returns-7
     returns-8
-    returns-9)
+    (λ c. given-last (past-8 c)))

@@ -4,9 +4,6 @@ use Rattle.anchor.specs.Info.{keyIdField}
 use Rattle.anchor.proofs.key_id_field.Statement.{statement}
 use Rattle.anchor.proofs.key_id_field.Tie as tie
 
-returns : tie.Need-returns
-unfolding keyIdField
-returns c = rw (c .field .ensures, c .before .root .ensures)
-
 pub key-id-field-spec : {M : Type 1} → statement M
-key-id-field-spec = tie.close (tie.spec (λ c κs. search needs) (λ c κs. search needs) returns)
+unfolding keyIdField
+key-id-field-spec = tie.close (tie.spec (λ c κs. search needs) (λ c κs. search needs) (λ c. rw (c .field .ensures, c .before .root .ensures)))

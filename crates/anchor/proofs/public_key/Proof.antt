@@ -4,9 +4,6 @@ use Rattle.anchor.specs.Info.{publicKey}
 use Rattle.anchor.proofs.public_key.Statement.{statement}
 use Rattle.anchor.proofs.public_key.Tie as tie
 
-returns : tie.Need-returns
-unfolding publicKey
-returns c = rw (c .whole .ensures, c .before .field .ensures, c .before .before .root .ensures)
-
 pub public-key-spec : {M : Type 1} → statement M
-public-key-spec = tie.close (tie.spec (λ c κs. search needs) (λ c κs. search needs) (λ c κs. search needs) returns)
+unfolding publicKey
+public-key-spec = tie.close (tie.spec (λ c κs. search needs) (λ c κs. search needs) (λ c κs. search needs) (λ c. rw (c .whole .ensures, c .before .field .ensures, c .before .before .root .ensures)))

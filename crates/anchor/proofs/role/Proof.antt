@@ -6,17 +6,6 @@ use Rattle.anchor.specs.Role.{roleOf}
 use Rattle.anchor.proofs.role.Statement.{statement}
 use Rattle.anchor.proofs.role.Tie as tie
 
-returns : tie.Need-returns
-unfolding roleOf
-returns c = rw (eq-eqb _ _ (c .if1 .taken), roleOf)
-
-returns-2 : tie.Need-returns-2
-unfolding roleOf
-returns-2 c = rw (ne-eqb _ _ (c .before .before .if1 .left), sym (c .before .has-constraints .ensures) ∙ c .if2 .taken, roleOf)
-
-returns-3 : tie.Need-returns-3
-unfolding roleOf
-returns-3 c = rw (ne-eqb _ _ (c .before .before .if1 .left), sym (c .before .has-constraints .ensures) ∙ c .if2 .left, roleOf)
-
 pub role-spec : {M : Type 1} → statement M
-role-spec = tie.close (tie.spec returns (λ c κs. search needs) returns-2 returns-3)
+unfolding roleOf
+role-spec = tie.close (tie.spec (λ c. rw (eq-eqb _ _ (c .if1 .taken), roleOf)) (λ c κs. search needs) (λ c. rw (ne-eqb _ _ (c .before .before .if1 .left), sym (c .before .has-constraints .ensures) ∙ c .if2 .taken, roleOf)) (λ c. rw (ne-eqb _ _ (c .before .before .if1 .left), sym (c .before .has-constraints .ensures) ∙ c .if2 .left, roleOf)))

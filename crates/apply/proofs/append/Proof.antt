@@ -1,26 +1,35 @@
-use Rattle.apply.proofs.Held.{append-first, append-bounds, append-done}
+use native.Mathlib.Omega.{arith}
 use mathlib.Core.Path.{sym}
 use lib.Seq.{length-take-le}
+use Rattle.apply.proofs.Held.{few, append-bounds, append-done}
 use borrow.Author.Needs.{needs}
 use Rattle.apply.proofs.append.Statement.{statement}
 use Rattle.apply.proofs.append.Tie as tie
 
+slice-aggregate-anchor-place : tie.Need-slice-aggregate-anchor-place
+slice-aggregate-anchor-place c = sym (length-take-le _ _ (c .before .before .before .pre .holds .inside))
+
+slice-aggregate-anchor-count : tie.Need-slice-aggregate-anchor-count
+slice-aggregate-anchor-count c = sym (length-take-le _ _ (c .before .before .before .before .before .pre .holds .inside))
+
+add-items : tie.Need-add-items
+add-items c = omega (arith, few (c .before .before .before .before .before .before .pre .store) _ _ (c .before .before .before .before .before .before .pre .holds) (c .anchor-count .ensures))
+
 slice-aggregate-community-place : tie.Need-slice-aggregate-community-place
-slice-aggregate-community-place c = sym (length-take-le _ _ (c .before .before .before .pre .holds .inside))
+slice-aggregate-community-place c = sym (length-take-le _ _ (c .before .before .before .before .before .before .before .pre .holds .inside))
 
-slice-aggregate-first-record : tie.Need-slice-aggregate-first-record
-slice-aggregate-first-record c = sym (length-take-le _ _ (c .before .before .before .before .before .pre .holds .inside))
+cast-replace-items : tie.Need-cast-replace-items
+cast-replace-items c = omega (arith, few (c .before .before .before .before .before .before .before .before .before .before .before .before .pre .store) _ _ (c .before .before .before .before .before .before .before .before .before .before .before .before .pre .holds) (c .before .before .before .before .before .before .anchor-count .ensures))
 
-sub-count : tie.Need-sub-count
-sub-count c = append-first (c .before .before .before .before .before .before .pre) (c .before .before .community-place .ensures) (c .first-record .ensures)
-
-append-anchor-requires : tie.Need-append-anchor-requires
-append-anchor-requires c κs = append-bounds (c .before .before .before .before .before .before .before .pre) (c .before .before .before .community-place .ensures) (c .before .first-record .ensures)
+replace-items-requires : tie.Need-replace-items-requires
+replace-items-requires c κs =
+    append-bounds (c .before .before .before .before .before .before .before .before .before .before .before .before .before .pre) (c .before .before .before .before .before .before .before .before .before .anchor-place .ensures .0) (c .before .before .before .before .before .before .before .anchor-count .ensures) (c .before .before .before .before .before .community-place .ensures) _ (c .before .before .before .put-be .ensures)
 
 returns : tie.Need-returns
 returns c =
-    append-done (c .before .before .before .before .before .before .before .before .before .before .pre) (c .before .before .before .before .before .before .community-place .ensures) (c .before .before .before .before .first-record .ensures) (c .before .before .append-anchor .ensures .0)
-    (c .before .before .append-anchor .ensures .1)
+    append-done (c .before .before .before .before .before .before .before .before .before .before .before .before .before .before .before .before .pre) (c .before .before .before .before .before .before .before .before .before .before .before .before .anchor-place .ensures .0) (c .before .before .before .before .before .before .before .before .before .before .anchor-count .ensures) (c .before .before .before .before .before .before .before .before .community-place .ensures)
+    (c .before .before .before .before .before .before .put-be .ensures)
+    (c .before .before .replace-items .ensures)
     (search needs)
 
 pub append-spec : {M : Type 1} → statement M
@@ -28,12 +37,19 @@ append-spec =
     tie.close
     (tie.spec
     (λ c. search needs)
+    slice-aggregate-anchor-place
+    (λ c κs. search needs)
+    (λ c. search needs)
+    slice-aggregate-anchor-count
+    (λ c κs. search needs)
+    add-items
+    (λ c. search needs)
     slice-aggregate-community-place
     (λ c κs. search needs)
     (λ c. search needs)
-    slice-aggregate-first-record
     (λ c κs. search needs)
-    sub-count
-    append-anchor-requires
+    cast-replace-items
+    (λ c. search needs)
+    replace-items-requires
     (λ c. search needs)
     returns)

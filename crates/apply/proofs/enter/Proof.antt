@@ -1,13 +1,10 @@
-use Rattle.apply.proofs.Entries.{scratch-of, enter-small, enter-failed, enter-done}
+use Rattle.apply.proofs.Entries.{scratch-of, enter-failed, enter-done}
 use borrow.Author.Needs.{needs}
 use Rattle.apply.proofs.enter.Statement.{statement}
 use Rattle.apply.proofs.enter.Tie as tie
 
 step-requires : tie.Need-step-requires
 step-requires c κs = (scratch-of (c .before .before .before .before .before .pre .0), rw (c .entry-of .ensures) (c .before .before .before .before .before .pre .1))
-
-code-of-requires : tie.Need-code-of-requires
-code-of-requires c κs = enter-small _ _ _ _ _ (c .before .before .before .before .before .entry-of .ensures) (c .before .before .before .before .step .ensures) (c .before .before .before .before .before .before .before .before .before .before .pre .0)
 
 returns : tie.Need-returns
 returns c = enter-failed _ _ _ _ _ (c .before .before .before .before .before .before .entry-of .ensures) (c .before .before .before .before .before .step .ensures) (c .before .enum-told .given .1) (c .code-of .ensures)
@@ -23,7 +20,7 @@ enter-spec =
     step-requires
     (λ c. search needs)
     (λ c. search needs)
-    code-of-requires
+    (λ c κs. search needs)
     (λ c. search needs)
     returns
     (λ c. search needs)

@@ -2,7 +2,7 @@
 use borrow.Author.Needs.{needs}
 use mathlib.Core.Bool.{not}
 use mathlib.Core.Path.{ap}
-use Rattle.repeats.specs.Keys.{keyOf}
+use Rattle.der.specs.Keys.{keyOf}
 use Rattle.apply.proofs.has_repeat.Statement.{statement}
 use Rattle.apply.proofs.has_repeat.Tie as tie
 

@@ -1,13 +1,27 @@
-use Rattle.apply.proofs.Sections.{joinable-bounds, join-done}
+use native.Mathlib.Omega.{arith}
+use mathlib.Core.Path.{refl}
+use Rattle.apply.proofs.Sections.{joinable-bounds, joinable-count, join-done}
 use borrow.Author.Needs.{needs}
 use Rattle.apply.proofs.join.Statement.{statement}
 use Rattle.apply.proofs.join.Tie as tie
 
-append-community-requires : tie.Need-append-community-requires
-append-community-requires c κs = joinable-bounds (c .before .before .before .pre)
+add-items : tie.Need-add-items
+add-items c = omega (arith, joinable-count (c .before .before .before .pre))
+
+replace-items-requires : tie.Need-replace-items-requires
+replace-items-requires c κs = joinable-bounds (c .before .before .before .before .before .pre)
 
 returns : tie.Need-returns
-returns c = join-done (c .before .before .before .before .before .before .pre) (c .before .before .append-community .ensures .0) (c .before .before .append-community .ensures .1) (search needs)
+returns c = join-done (c .before .before .before .before .before .before .before .before .pre) refl (c .before .before .replace-items .ensures) (search needs)
 
 pub join-spec : {M : Type 1} → statement M
-join-spec = tie.close (tie.spec append-community-requires (λ c. search needs) returns)
+join-spec =
+    tie.close
+    (tie.spec
+    (λ c. search needs)
+    add-items
+    (λ c. search needs)
+    (λ c. search needs)
+    replace-items-requires
+    (λ c. search needs)
+    returns)

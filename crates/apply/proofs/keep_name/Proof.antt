@@ -1,6 +1,6 @@
 use Rattle.apply.proofs.Sections.{keep-none, keep-one}
 use borrow.Author.Needs.{needs}
-use Rattle.repeats.specs.Keys.{keyOf}
+use Rattle.der.specs.Keys.{keyOf}
 use Rattle.apply.proofs.keep_name.Statement.{statement}
 use Rattle.apply.proofs.keep_name.Tie as tie
 

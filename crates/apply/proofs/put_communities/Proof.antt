@@ -1,14 +1,13 @@
-use Rattle.apply.proofs.TwoLists.{put-small, put-fits, put-few, put-addable, put-full, put-names, put-done}
 use lib.Dec.{lit≤}
-use native.Mathlib.Omega.{arith}
-use mathlib.Core.Path.{sym}
+use mathlib.Core.Path.{sym, ap, _∙_}
+use mathlib.Core.List.{List}
+use Prim.Native.Nat.{ℕ, _+_}
+use lib.ListN.{length}
 use lib.Seq.{length-take-le}
+use Rattle.apply.proofs.TwoLists.{put-bounds, put-few, put-addable, put-full, put-names, put-done}
 use borrow.Author.Needs.{needs}
 use Rattle.apply.proofs.put_communities.Statement.{statement}
 use Rattle.apply.proofs.put_communities.Tie as tie
-
-slice-reshare-prefix-after-removals : tie.Need-slice-reshare-prefix-after-removals
-slice-reshare-prefix-after-removals c = c .before .before .pre .scratch .holds .inside
 
 slice-aggregate-after-removals : tie.Need-slice-aggregate-after-removals
 slice-aggregate-after-removals c = sym (length-take-le _ _ (c .before .before .before .pre .scratch .holds .inside))
@@ -22,32 +21,29 @@ add-names-requires c κs = put-addable _ (c .before .before .before .before .bef
 returns : tie.Need-returns
 returns c = put-full _ (c .before .before .before .before .before .before .before .before .before .before .before .pre) (c .before .before .before .before .before .before .after-removals .ensures .1) (c .before .before .before .add-names .ensures) (c .enum-told .given .1)
 
-slice-reshare-prefix-community-place : tie.Need-slice-reshare-prefix-community-place
-slice-reshare-prefix-community-place c = c .before .before .before .before .before .before .before .before .before .before .before .before .pre .scratch .holds .inside
-
 slice-aggregate-community-place : tie.Need-slice-aggregate-community-place
 slice-aggregate-community-place c = sym (length-take-le _ _ (c .before .before .before .before .before .before .before .before .before .before .before .before .before .pre .scratch .holds .inside))
 
+slice-aggregate-community-octets : tie.Need-slice-aggregate-community-octets
+slice-aggregate-community-octets c = sym (length-take-le _ _ (c .before .before .before .before .before .before .before .before .before .before .before .before .before .before .before .pre .scratch .holds .inside))
+
 array-share-prefix-names : tie.Need-array-share-prefix-names
-array-share-prefix-names c = put-names _ (c .before .before .before .before .before .before .before .before .before .before .before .before .before .before .before .pre) (c .before .before .before .before .before .before .before .before .before .before .after-removals .ensures .1) (c .before .before .before .before .before .before .before .add-names .ensures) (c .before .before .before .before .n .given .1) (c .before .community-place .ensures)
+array-share-prefix-names c = put-names _ (c .before .before .before .before .before .before .before .before .before .before .before .before .before .before .before .before .before .before .pre) (c .before .before .before .before .before .before .before .before .before .before .before .before .before .after-removals .ensures .1) (c .before .before .before .before .before .before .before .before .before .before .add-names .ensures) (c .before .before .before .before .before .before .before .n .given .1)
 
-slice-aggregate-copy-to : tie.Need-slice-aggregate-copy-to
-slice-aggregate-copy-to c = sym (length-take-le _ _ (put-names _ (c .before .before .before .before .before .before .before .before .before .before .before .before .before .before .before .before .pre) (c .before .before .before .before .before .before .before .before .before .before .before .after-removals .ensures .1) (c .before .before .before .before .before .before .before .before .add-names .ensures) (c .before .before .before .before .before .n .given .1) (c .before .before .community-place .ensures)))
+slice-aggregate-replace-2 : tie.Need-slice-aggregate-replace-2
+slice-aggregate-replace-2 c = sym (length-take-le _ _ (put-names _ (c .before .before .before .before .before .before .before .before .before .before .before .before .before .before .before .before .before .before .before .pre) (c .before .before .before .before .before .before .before .before .before .before .before .before .before .before .after-removals .ensures .1) (c .before .before .before .before .before .before .before .before .before .before .before .add-names .ensures) (c .before .before .before .before .before .before .before .before .n .given .1)))
 
-copy-to-requires : tie.Need-copy-to-requires
-copy-to-requires c κs = put-fits _ (c .before .before .before .before .before .before .before .before .before .before .before .before .before .before .before .before .pre) (c .before .before .before .before .before .before .before .before .before .before .before .after-removals .ensures .1) (c .before .before .before .before .before .before .before .before .add-names .ensures) (c .before .before .before .before .before .n .given .1) (c .before .before .community-place .ensures)
-
-add-t26 : tie.Need-add-t26
-add-t26 c = omega (arith, put-small _ (c .before .before .before .before .before .before .before .before .before .before .before .before .before .before .before .before .before .before .before .pre) (c .before .before .before .before .before .before .before .before .before .before .before .before .before .before .after-removals .ensures .1) (c .before .before .before .before .before .before .before .before .before .before .before .add-names .ensures) (c .before .before .before .before .before .before .before .before .n .given .1) (c .before .before .before .before .before .community-place .ensures))
+replace-requires : tie.Need-replace-requires
+replace-requires c κs = put-bounds _ (c .before .before .before .before .before .before .before .before .before .before .before .before .before .before .before .before .before .before .before .pre) (c .before .before .before .before .before .before .before .before .before .before .before .before .before .before .after-removals .ensures .1) (c .before .before .before .before .before .before .before .before .before .before .before .add-names .ensures) (c .before .before .before .before .before .before .before .before .n .given .1) (c .before .before .before .before .before .community-place .ensures) (ap (λ (s : List ℕ). length s + 1) (c .before .before .before .community-octets .ensures))
 
 returns-2 : tie.Need-returns-2
-returns-2 c = put-done _ (c .before .before .before .before .before .before .before .before .before .before .before .before .before .before .before .before .before .before .before .pre) (c .before .before .before .before .before .before .before .before .before .before .before .before .before .before .after-removals .ensures .1) (c .before .before .before .before .before .before .before .before .before .before .before .add-names .ensures) (c .before .before .before .before .before .before .before .before .n .given .1) (c .before .before .before .before .before .community-place .ensures) (c .before .before .copy-to .ensures)
+returns-2 c = put-done _ (c .before .before .before .before .before .before .before .before .before .before .before .before .before .before .before .before .before .before .before .before .before .before .pre) (c .before .before .before .before .before .before .before .before .before .before .before .before .before .before .before .before .before .after-removals .ensures .1) (c .before .before .before .before .before .before .before .before .before .before .before .before .before .before .add-names .ensures) (c .before .before .before .before .before .before .before .before .before .before .before .n .given .1) (c .before .before .before .before .before .before .before .before .community-place .ensures) (ap (λ (s : List ℕ). length s + 1) (c .before .before .before .before .before .before .community-octets .ensures)) (c .before .before .replace .ensures)
 
 pub put-communities-spec : {M : Type 1} → statement M
 put-communities-spec =
     tie.close
     (tie.spec
-    slice-reshare-prefix-after-removals
+    (λ c. search needs)
     slice-aggregate-after-removals
     (λ c. search needs)
     after-removals-requires
@@ -57,12 +53,16 @@ put-communities-spec =
     (λ c. search needs)
     (λ c. search needs)
     returns
-    slice-reshare-prefix-community-place
+    (λ c. search needs)
     slice-aggregate-community-place
     (λ c κs. search needs)
+    (λ c. search needs)
+    slice-aggregate-community-octets
+    (λ c κs. search needs)
+    (λ c. search needs)
+    (λ c. search needs)
     array-share-prefix-names
-    slice-aggregate-copy-to
-    copy-to-requires
-    add-t26
+    slice-aggregate-replace-2
+    replace-requires
     (λ c. search needs)
     returns-2)

@@ -3,6 +3,7 @@ use Rattle.store.specs.Parts.{identifierIn}
 use borrow.Author.Tests.{not-true, not-false}
 use mathlib.Core.Path.{sym, ap, _∙_}
 use lib.Seq.{length-take-le}
+use native.Mathlib.Omega.{arith}
 use borrow.Author.Needs.{needs}
 use Rattle.apply.proofs.stamp_at.Statement.{statement}
 use Rattle.apply.proofs.stamp_at.Tie as tie
@@ -14,7 +15,9 @@ returns : tie.Need-returns
 returns c = stamp-other (c .before .before .before .before .before .before .before .pre) (c .before .before .identifier-of .ensures ∙ ap identifierIn (c .before .before .before .record-at .ensures)) _ (c .before .equal .ensures) (not-true _ (c .if1 .taken))
 
 set-number-requires : tie.Need-set-number-requires
-set-number-requires c κs = stamp-inside (c .before .before .before .before .before .before .before .before .pre)
+set-number-requires c κs =
+    let w = c .before .before .before .before .before .before .before .before .pre in
+    omega (arith, stamp-inside w, w .holds .inside)
 
 returns-2 : tie.Need-returns-2
 returns-2 c = stamp-set (c .before .before .before .before .before .before .before .before .before .before .before .pre) (c .before .before .before .before .before .before .identifier-of .ensures ∙ ap identifierIn (c .before .before .before .before .before .before .before .record-at .ensures)) _ (c .before .before .before .before .before .equal .ensures) (not-false _ (c .before .before .before .before .if1 .left)) (c .before .before .set-number .ensures)

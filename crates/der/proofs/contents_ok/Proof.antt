@@ -6,35 +6,20 @@ use Rattle.der.proofs.Leaves.{contents-free}
 use Rattle.der.proofs.contents_ok.Statement.{statement}
 use Rattle.der.proofs.contents_ok.Tie as tie
 
-returns : tie.Need-returns
-unfolding contentsOk
-returns c = rw (c .before .if1 .taken) (c .is-boolean .ensures)
-
-returns-2 : tie.Need-returns-2
-unfolding contentsOk
-returns-2 c = rw (c .before .if2 .taken) (c .is-integer .ensures)
-
-returns-3 : tie.Need-returns-3
-unfolding contentsOk
-returns-3 c = rw (c .before .if3 .taken) (c .is-integer2 .ensures)
-
-returns-4 : tie.Need-returns-4
-unfolding contentsOk
-returns-4 c = rw (c .before .if4 .taken) (c .is-oid .ensures)
-
 returns-5 : tie.Need-returns-5
 returns-5 c = sym (contents-free _ _ (c .before .before .before .if1 .left) (c .before .before .if2 .left) (c .before .if3 .left) (c .if4 .left))
 
 pub contents-ok-spec : {M : Type 1} → statement M
+unfolding contentsOk
 contents-ok-spec =
     tie.close
     (tie.spec
     (λ c κs. search needs)
-    returns
+    (λ c. rw (c .before .if1 .taken) (c .is-boolean .ensures))
     (λ c κs. search needs)
-    returns-2
+    (λ c. rw (c .before .if2 .taken) (c .is-integer .ensures))
     (λ c κs. search needs)
-    returns-3
+    (λ c. rw (c .before .if3 .taken) (c .is-integer2 .ensures))
     (λ c κs. search needs)
-    returns-4
+    (λ c. rw (c .before .if4 .taken) (c .is-oid .ensures))
     returns-5)

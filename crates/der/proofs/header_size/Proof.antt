@@ -8,14 +8,5 @@ use Rattle.der.proofs.Writes.{short-octets, long-octets}
 use Rattle.der.proofs.header_size.Statement.{statement}
 use Rattle.der.proofs.header_size.Tie as tie
 
-returns : tie.Need-returns
-returns c = omega (arith, ap length (short-octets (c .before .args .n) (c .if1 .taken)))
-
-add-result : tie.Need-add-result
-add-result c = omega (arith, c .digit-count .ensures, length-digits 8 (c .before .before .args .n))
-
-returns-2 : tie.Need-returns-2
-returns-2 c = omega (arith, c .digit-count .ensures, ap length (long-octets (c .before .before .args .n) (c .before .if1 .left)))
-
 pub header-size-spec : {M : Type 1} → statement M
-header-size-spec = tie.close (tie.spec returns (λ c κs. search needs) add-result returns-2)
+header-size-spec = tie.close (tie.spec (λ c. omega (arith, ap length (short-octets (c .before .args .n) (c .if1 .taken)))) (λ c κs. search needs) (λ c. omega (arith, c .digit-count .ensures, length-digits 8 (c .before .before .args .n))) (λ c. omega (arith, c .digit-count .ensures, ap length (long-octets (c .before .before .args .n) (c .before .if1 .left)))))

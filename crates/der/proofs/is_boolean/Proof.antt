@@ -5,15 +5,6 @@ use Rattle.der.proofs.Leaves.{boolean-size, boolean-false, boolean-othe
 use Rattle.der.proofs.is_boolean.Statement.{statement}
 use Rattle.der.proofs.is_boolean.Tie as tie
 
-returns : tie.Need-returns
-returns c = sym (boolean-size _ (c .if1 .taken))
-
-returns-2 : tie.Need-returns-2
-returns-2 c = sym (boolean-false _ (c .before .before .if1 .left) (c .if2 .taken))
-
-returns-3 : tie.Need-returns-3
-returns-3 c = sym (boolean-other _ (c .before .before .before .if1 .left) (c .before .if2 .left))
-
 pub is-boolean-spec : {M : Type 1} → statement M
 is-boolean-spec =
-    tie.close (tie.spec returns (λ c. search needs) returns-2 (λ c. search needs) returns-3)
+    tie.close (tie.spec (λ c. sym (boolean-size _ (c .if1 .taken))) (λ c. search needs) (λ c. sym (boolean-false _ (c .before .before .if1 .left) (c .if2 .taken))) (λ c. search needs) (λ c. sym (boolean-other _ (c .before .before .before .if1 .left) (c .before .if2 .left))))

@@ -17,9 +17,6 @@ Inv-loop o i₀ i = (i ≤ length o) × (arcsOk (arcBegins o i) (drop i o) ≡ l
 abbrev μ-loop : tie.MeasureT-loop
 μ-loop o i₀ i = i
 
-returns : tie.Need-returns Inv-loop μ-loop
-returns c = sym (oid-none _ (c .if1 .taken))
-
 loop-holds : tie.Need-loop-holds Inv-loop μ-loop
 loop-holds c = let o = c .before .before .args .o .now in (omega arith, arcs-end o (length o) (c .if1 .left) refl)
 
@@ -51,7 +48,7 @@ is-oid-spec =
     (tie.spec
     Inv-loop
     μ-loop
-    returns
+    (λ c. sym (oid-none _ (c .if1 .taken)))
     loop-holds
     (λ c. search needs)
     (λ c κs. search needs)

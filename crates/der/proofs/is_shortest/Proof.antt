@@ -6,15 +6,6 @@ use Rattle.der.proofs.Header.{short-form, indefinite-form, padded-form,
 use Rattle.der.proofs.is_shortest.Statement.{statement}
 use Rattle.der.proofs.is_shortest.Tie as tie
 
-returns : tie.Need-returns
-returns c = sym (short-form _ _ (c .if1 .taken))
-
-returns-2 : tie.Need-returns-2
-returns-2 c = sym (indefinite-form _ _ (c .if2 .taken))
-
-returns-3 : tie.Need-returns-3
-returns-3 c = sym (padded-form _ _ (c .before .before .before .if1 .left) (c .if3 .taken))
-
 returns-4 : tie.Need-returns-4
 returns-4 c = ap (leb 128) (c .before .before .before .before .before .pre .1) ∙ sym (long-form _ _ (c .before .before .before .if1 .left) (c .if3 .left))
 
@@ -24,9 +15,9 @@ is-shortest-spec =
     (tie.spec
     (λ c. search needs)
     (λ c. search needs)
-    returns
-    returns-2
+    (λ c. sym (short-form _ _ (c .if1 .taken)))
+    (λ c. sym (indefinite-form _ _ (c .if2 .taken)))
     (λ c. search needs)
     (λ c. search needs)
-    returns-3
+    (λ c. sym (padded-form _ _ (c .before .before .before .if1 .left) (c .if3 .taken)))
     returns-4)

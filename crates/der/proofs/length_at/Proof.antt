@@ -15,9 +15,6 @@ Inv-loop s at stop start₀ n₀ i₀ first₀ start n i first = ReadTo s at sto
 abbrev μ-loop : tie.MeasureT-loop
 μ-loop s at stop start₀ n₀ i₀ first₀ start n i first = stop - i
 
-loop-holds : tie.Need-loop-holds Inv-loop μ-loop
-loop-holds c = read-none _ _ _ (c .before .pre .0)
-
 returns : tie.Need-returns Inv-loop μ-loop
 returns c =
     let b = c .before .before .before .before .before .before .before .before in
@@ -81,7 +78,7 @@ length-at-spec =
     μ-loop
     (λ c. search needs)
     (λ c. search needs)
-    loop-holds
+    (λ c. read-none _ _ _ (c .before .pre .0))
     (λ c. search needs)
     (λ c κs. search needs)
     (λ c. search needs)

@@ -9,9 +9,6 @@ use Rattle.der.specs.Write.{lengthOctets}
 use Rattle.der.proofs.put_header.Statement.{statement}
 use Rattle.der.proofs.put_header.Tie as tie
 
-put-length-requires : tie.Need-put-length-requires
-put-length-requires c κs = simp length-set (omega arith)
-
 same-length : tie.Need-same-length
 same-length c =
     let a = c .before .before .before .before .before .args in
@@ -29,4 +26,4 @@ returns c =
 
 pub put-header-spec : {M : Type 1} → statement M
 put-header-spec =
-    tie.close (tie.spec (λ c. search needs) (λ c. search needs) put-length-requires same-length returns)
+    tie.close (tie.spec (λ c. search needs) (λ c. search needs) (λ c κs. simp length-set (omega arith)) same-length returns)

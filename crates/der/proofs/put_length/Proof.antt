@@ -12,32 +12,11 @@ use Rattle.der.proofs.Writes.{short-octets, long-octets}
 use Rattle.der.proofs.put_length.Statement.{statement}
 use Rattle.der.proofs.put_length.Tie as tie
 
-cast-buf : tie.Need-cast-buf
-cast-buf c = omega arith
-
-slice-write-buf : tie.Need-slice-write-buf
-slice-write-buf c = omega (arith, ap length (short-octets (c .before .before .args .n) (c .if1 .taken)))
-
-add-result : tie.Need-add-result
-add-result c = omega (arith, ap length (short-octets (c .before .before .args .n) (c .if1 .taken)))
-
 returns : tie.Need-returns
 returns c =
     let a = c .before .before .args in
     let o = short-octets (a .n) (c .if1 .taken) in
     (omega (arith, ap length o), rw o (sym (placed-one (a .buf .now) (a .at) (a .n) (omega (arith, ap length o)))))
-
-add-buf : tie.Need-add-buf
-add-buf c = omega (arith, c .digit-count .ensures, length-digits 8 (c .before .before .before .args .n))
-
-cast-buf-2 : tie.Need-cast-buf-2
-cast-buf-2 c = omega (arith, c .digit-count .ensures, length-digits 8 (c .before .before .before .args .n))
-
-slice-write-buf-2 : tie.Need-slice-write-buf-2
-slice-write-buf-2 c = omega (arith, ap length (long-octets (c .before .before .before .args .n) (c .before .if1 .left)))
-
-add-put-be : tie.Need-add-put-be
-add-put-be c = omega (arith, ap length (long-octets (c .before .before .before .before .args .n) (c .before .before .if1 .left)))
 
 put-be-requires : tie.Need-put-be-requires
 put-be-requires c κs =
@@ -83,16 +62,16 @@ pub put-length-spec : {M : Type 1} → statement M
 put-length-spec =
     tie.close
     (tie.spec
-    cast-buf
-    slice-write-buf
-    add-result
+    (λ c. omega arith)
+    (λ c. omega (arith, ap length (short-octets (c .before .before .args .n) (c .if1 .taken))))
+    (λ c. omega (arith, ap length (short-octets (c .before .before .args .n) (c .if1 .taken))))
     (λ c. search needs)
     returns
     (λ c κs. search needs)
-    add-buf
-    cast-buf-2
-    slice-write-buf-2
-    add-put-be
+    (λ c. omega (arith, c .digit-count .ensures, length-digits 8 (c .before .before .before .args .n)))
+    (λ c. omega (arith, c .digit-count .ensures, length-digits 8 (c .before .before .before .args .n)))
+    (λ c. omega (arith, ap length (long-octets (c .before .before .before .args .n) (c .before .if1 .left))))
+    (λ c. omega (arith, ap length (long-octets (c .before .before .before .before .args .n) (c .before .before .if1 .left))))
     put-be-requires
     add-result-2
     add-result-3

@@ -7,9 +7,6 @@ use Rattle.der.proofs.Checks.{spans-none, spans-one}
 use Rattle.der.proofs.spans.Statement.{statement}
 use Rattle.der.proofs.spans.Tie as tie
 
-returns : tie.Need-returns
-returns c = sym (spans-none _ _ _ _ _ (c .if1 .taken))
-
 returns-2 : tie.Need-returns-2
 returns-2 c =
     let a = c .before .before .before .before .before .before .before .args in
@@ -40,7 +37,7 @@ pub spans-spec : {M : Type 1} → statement M
 spans-spec =
     tie.close
     (tie.spec
-    returns
+    (λ c. sym (spans-none _ _ _ _ _ (c .if1 .taken)))
     (λ c κs. search needs)
     (λ c κs. search needs)
     (λ c. search needs)

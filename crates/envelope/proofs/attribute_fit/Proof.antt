@@ -6,7 +6,7 @@ use Rattle.envelope.proofs.attribute_fit.Statement.{statement}
 use Rattle.envelope.proofs.attribute_fit.Tie as tie
 
 returns : tie.Need-returns
-returns c = c .attribute-fits .ensures ∙ attribute-fit _ _ _ _ _ (c .before .form-of .ensures _) (c .before .before .attr-type .ensures)
+returns c = c .attribute-fits .ensures ∙ attribute-fit _ _ _ _ _ (c .before .form-of .ensures _) (c .before .before .type-of .ensures)
 
 pub attribute-fit-spec : {M : Type 1} → statement M
 attribute-fit-spec =

@@ -3,34 +3,15 @@ use borrow.Author.Needs.{needs}
 use native.Mathlib.Omega.{arith}
 use mathlib.Core.Path.{ap}
 use lib.ListN.{length}
-use Rattle.reply.proofs.Sizes.{written-whole, error-size, error-parts}
+use Rattle.reply.proofs.Answers.{written-as, error-rest, error-is}
 use Rattle.reply.proofs.put_error.Statement.{statement}
 use Rattle.reply.proofs.put_error.Tie as tie
 
-contents-size-requires : tie.Need-contents-size-requires
-contents-size-requires c κs =
-    let a = c .before .before .before .args in
-    omega (arith, error-size (a .msgtype .now) (a .msgref .now) (a .status))
-
 put-reply-requires : tie.Need-put-reply-requires
-put-reply-requires c κs =
-    let a = c .before .before .before .before .before .before .before .before .args in
-    omega (arith, ap length (error-parts (a .msgtype .now) (a .msgref .now) (a .status) (c .before .before .before .before .contents-size .ensures .0)))
+put-reply-requires c κs = let b = c .before .before .before .before .before .before in let a = b .args in (error-rest (a .msgtype .now) (a .status) (a .msgref .now), omega (arith, ap length (error-is (a .msgtype .now) (a .status) (a .msgref .now))))
 
 returns : tie.Need-returns
-returns c =
-    let a = c .before .before .before .before .before .before .before .before .before .before .before .args in
-    written-whole (a .buf .now) (error-parts (a .msgtype .now) (a .msgref .now) (a .status) (c .before .before .before .before .before .before .before .contents-size .ensures .0)) (c .before .before .put-reply .ensures)
+returns c = let b = c .before .before .before .before .before .before .before .before .before in let a = b .args in written-as (a .buf .now) (error-is (a .msgtype .now) (a .status) (a .msgref .now)) (c .before .before .put-reply .ensures)
 
 pub put-error-spec : {M : Type 1} → statement M
-put-error-spec =
-    tie.close
-    (tie.spec
-    (λ c. search needs)
-    contents-size-requires
-    (λ c. search needs)
-    (λ c. search needs)
-    (λ c. search needs)
-    put-reply-requires
-    (λ c. search needs)
-    returns)
+put-error-spec = tie.close (tie.spec (λ c. search needs) (λ c. search needs) (λ c. search needs) put-reply-requires (λ c. search needs) returns)

@@ -3,36 +3,22 @@ use borrow.Author.Needs.{needs}
 use native.Mathlib.Omega.{arith}
 use mathlib.Core.Path.{ap}
 use lib.ListN.{length}
-use Rattle.reply.proofs.Sizes.{written-whole, update-size, update-parts}
+use mathlib.Core.List.{map}
+use lib.ListN.{length-map}
+use Rattle.reply.specs.Parts.{statusOf}
+use Rattle.reply.proofs.Answers.{written-as, update-size, update-rest, update-is}
 use Rattle.reply.proofs.put_update_confirm.Statement.{statement}
 use Rattle.reply.proofs.put_update_confirm.Tie as tie
 
-mul-m : tie.Need-mul-m
-mul-m c =
-    record { fits = let a = c .before .before .before .args in omega (arith, update-size (a .msgref .now) (a .codes .now)) }
-
-contents-size-requires : tie.Need-contents-size-requires
-contents-size-requires c κs =
-    let a = c .before .before .before .args in
-    omega (arith, update-size (a .msgref .now) (a .codes .now))
+mul-put-reply : tie.Need-mul-put-reply
+mul-put-reply c =
+    let a = c .before .before .before .before .before .args in record { fits = omega (arith, update-size (a .msgref .now) (map statusOf (a .codes .now)) (length-map (a .codes .now) statusOf)) }
 
 put-reply-requires : tie.Need-put-reply-requires
-put-reply-requires c κs =
-    let a = c .before .before .before .before .before .before .args in
-    omega (arith, ap length (update-parts (a .msgref .now) (a .codes .now) (c .before .before .contents-size .ensures .0)))
+put-reply-requires c κs = let b = c .before .before .before .before .before in let a = b .args in (update-rest (a .msgref .now) (a .codes .now), omega (arith, ap length (update-is (a .msgref .now) (a .codes .now))))
 
 returns : tie.Need-returns
-returns c =
-    let a = c .before .before .before .before .before .before .before .before .before .args in
-    written-whole (a .buf .now) (update-parts (a .msgref .now) (a .codes .now) (c .before .before .before .before .before .contents-size .ensures .0)) (c .before .before .put-reply .ensures)
+returns c = let b = c .before .before .before .before .before .before .before .before in let a = b .args in written-as (a .buf .now) (update-is (a .msgref .now) (a .codes .now)) (c .before .before .put-reply .ensures)
 
 pub put-update-confirm-spec : {M : Type 1} → statement M
-put-update-confirm-spec =
-    tie.close
-    (tie.spec
-    mul-m
-    contents-size-requires
-    (λ c. search needs)
-    put-reply-requires
-    (λ c. search needs)
-    returns)
+put-update-confirm-spec = tie.close (tie.spec (λ c. search needs) mul-put-reply put-reply-requires (λ c. search needs) returns)

@@ -4,15 +4,6 @@ use Rattle.rights.proofs.Attributes.{not-governed, not-source, all-meet
 use Rattle.rights.proofs.authorises.Statement.{statement}
 use Rattle.rights.proofs.authorises.Tie as tie
 
-returns : tie.Need-returns
-returns c = search (not-governed, needs)
-
-returns-2 : tie.Need-returns-2
-returns-2 c = search (not-source, needs)
-
-returns-3 : tie.Need-returns-3
-returns-3 c = search (all-meet, needs)
-
 pub authorises-spec : {M : Type 1} → statement M
 authorises-spec =
     tie.close
@@ -20,8 +11,8 @@ authorises-spec =
     (λ c κs. search needs)
     (λ c. search needs)
     (λ c. search needs)
-    returns
+    (λ c. search (not-governed, needs))
     (λ c κs. search needs)
-    returns-2
+    (λ c. search (not-source, needs))
     (λ c κs. search needs)
-    returns-3)
+    (λ c. search (all-meet, needs)))

@@ -4,8 +4,5 @@ use Rattle.rights.proofs.Places.{constraint-found}
 use Rattle.rights.proofs.constraint_for.Statement.{statement}
 use Rattle.rights.proofs.constraint_for.Tie as tie
 
-returns : tie.Need-returns
-returns c = search (constraint-found, needs)
-
 pub constraint-for-spec : {M : Type 1} → statement M
-constraint-for-spec = tie.close (tie.spec (λ c κs. search needs) (λ c κs. search needs) returns)
+constraint-for-spec = tie.close (tie.spec (λ c κs. search needs) (λ c κs. search needs) (λ c. search (constraint-found, needs)))

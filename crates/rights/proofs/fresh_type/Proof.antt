@@ -14,20 +14,6 @@ Inv-loop signer new n₀ n = (n ≤ fresh oid (listedTypes (constraintsRights si
 abbrev μ-loop : tie.MeasureT-loop
 μ-loop signer new n₀ n = 256 - n
 
-loop-holds : tie.Need-loop-holds Inv-loop μ-loop
-loop-holds c = omega arith
-
-returns : tie.Need-returns Inv-loop μ-loop
-unfolding oid
-returns c = search (type-fresh, needs)
-
-loop-less : tie.Need-loop-less Inv-loop μ-loop
-loop-less c = omega arith
-
-loop-again : tie.Need-loop-again Inv-loop μ-loop
-unfolding oid
-loop-again c = search (type-more, needs)
-
 returns-2 : tie.Need-returns-2 Inv-loop μ-loop
 returns-2 c =
     type-last _ _
@@ -38,17 +24,18 @@ returns-2 c =
     (omega arith)
 
 pub fresh-type-spec : {M : Type 1} → statement M
+unfolding oid
 fresh-type-spec =
     tie.close
     (tie.spec
     Inv-loop
     μ-loop
-    loop-holds
+    (λ c. omega arith)
     (λ c. search needs)
     (λ c. search needs)
     (λ c κs. search needs)
-    returns
+    (λ c. search (type-fresh, needs))
     (λ c. search needs)
-    loop-less
-    loop-again
+    (λ c. omega arith)
+    (λ c. search (type-more, needs))
     returns-2)

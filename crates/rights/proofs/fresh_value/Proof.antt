@@ -14,35 +14,22 @@ Inv-loop v constraint n₀ n = (n ≤ fresh integer (valuesUnder v constraint)) 
 abbrev μ-loop : tie.MeasureT-loop
 μ-loop v constraint n₀ n = 256 - n
 
-loop-holds : tie.Need-loop-holds Inv-loop μ-loop
-loop-holds c = omega arith
-
-returns : tie.Need-returns Inv-loop μ-loop
-unfolding integer
-returns c = search (value-fresh, needs)
-
-loop-less : tie.Need-loop-less Inv-loop μ-loop
-loop-less c = omega arith
-
-loop-again : tie.Need-loop-again Inv-loop μ-loop
-unfolding integer
-loop-again c = search (value-more, needs)
-
 returns-2 : tie.Need-returns-2 Inv-loop μ-loop
-returns-2 c = value-last _ (λ i. omega (arith, c .before .before .shared-slice-known .given i)) _ _ (c .before .loop .inv .0) (omega arith)
+returns-2 c = value-last _ (λ i. omega (arith, c .before .before .shared-slice-known .given i)) (c .before .before .before .args .constraint) _ (c .before .loop .inv .0) (omega arith)
 
 pub fresh-value-spec : {M : Type 1} → statement M
+unfolding integer
 fresh-value-spec =
     tie.close
     (tie.spec
     Inv-loop
     μ-loop
-    loop-holds
+    (λ c. omega arith)
     (λ c. search needs)
     (λ c. search needs)
     (λ c κs. search needs)
-    returns
+    (λ c. search (value-fresh, needs))
     (λ c. search needs)
-    loop-less
-    loop-again
+    (λ c. omega arith)
+    (λ c. search (value-more, needs))
     returns-2)

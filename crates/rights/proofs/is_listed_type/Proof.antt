@@ -4,12 +4,6 @@ use Rattle.rights.proofs.Places.{listed-by-new, listed-by-signer}
 use Rattle.rights.proofs.is_listed_type.Statement.{statement}
 use Rattle.rights.proofs.is_listed_type.Tie as tie
 
-returns : tie.Need-returns
-returns c = search (listed-by-new, needs)
-
-returns-2 : tie.Need-returns-2
-returns-2 c = search (listed-by-signer, needs)
-
 pub is-listed-type-spec : {M : Type 1} → statement M
 is-listed-type-spec =
-    tie.close (tie.spec (λ c κs. search needs) returns (λ c κs. search needs) returns-2)
+    tie.close (tie.spec (λ c κs. search needs) (λ c. search (listed-by-new, needs)) (λ c κs. search needs) (λ c. search (listed-by-signer, needs)))

@@ -4,8 +4,5 @@ use Rattle.rights.proofs.Attributes.{source-found}
 use Rattle.rights.proofs.is_source.Statement.{statement}
 use Rattle.rights.proofs.is_source.Tie as tie
 
-returns : tie.Need-returns
-returns c = search (source-found, needs)
-
 pub is-source-spec : {M : Type 1} → statement M
-is-source-spec = tie.close (tie.spec (λ c κs. search needs) returns)
+is-source-spec = tie.close (tie.spec (λ c κs. search needs) (λ c. search (source-found, needs)))

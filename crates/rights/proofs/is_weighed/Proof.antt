@@ -4,12 +4,6 @@ use Rattle.rights.proofs.Attributes.{content-type, other-type}
 use Rattle.rights.proofs.is_weighed.Statement.{statement}
 use Rattle.rights.proofs.is_weighed.Tie as tie
 
-returns : tie.Need-returns
-returns c = search (content-type, needs)
-
-returns-2 : tie.Need-returns-2
-returns-2 c = search (other-type, needs)
-
 pub is-weighed-spec : {M : Type 1} → statement M
 is-weighed-spec =
     tie.close
@@ -17,8 +11,8 @@ is-weighed-spec =
     (λ c κs. search needs)
     (λ c. search needs)
     (λ c κs. search needs)
-    returns
+    (λ c. search (content-type, needs))
     (λ c κs. search needs)
     (λ c. search needs)
     (λ c κs. search needs)
-    returns-2)
+    (λ c. search (other-type, needs)))

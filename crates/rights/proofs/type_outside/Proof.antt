@@ -4,9 +4,6 @@ use Rattle.rights.proofs.Engine.{type-governed}
 use Rattle.rights.proofs.type_outside.Statement.{statement}
 use Rattle.rights.proofs.type_outside.Tie as tie
 
-returns : tie.Need-returns
-returns c = search (type-governed, needs)
-
 pub type-outside-spec : {M : Type 1} → statement M
 type-outside-spec =
-    tie.close (tie.spec (λ c κs. search needs) (λ c κs. search needs) (λ c κs. search needs) returns)
+    tie.close (tie.spec (λ c κs. search needs) (λ c κs. search needs) (λ c κs. search needs) (λ c. search (type-governed, needs)))

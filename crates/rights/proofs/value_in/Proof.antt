@@ -4,8 +4,5 @@ use Rattle.rights.proofs.Attributes.{value-found}
 use Rattle.rights.proofs.value_in.Statement.{statement}
 use Rattle.rights.proofs.value_in.Tie as tie
 
-returns : tie.Need-returns
-returns c = search (value-found, needs)
-
 pub value-in-spec : {M : Type 1} → statement M
-value-in-spec = tie.close (tie.spec (λ c κs. search needs) (λ c κs. search needs) (λ c κs. search needs) returns)
+value-in-spec = tie.close (tie.spec (λ c κs. search needs) (λ c κs. search needs) (λ c κs. search needs) (λ c. search (value-found, needs)))

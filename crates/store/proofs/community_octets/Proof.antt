@@ -1,16 +1,23 @@
 -- `store::community_octets` meets its contract. Assumes nothing.
 use borrow.Author.Needs.{needs}
-use lib.Seq.{drop-drop}
-use Rattle.store.specs.Parts.{communityPlace, communityOctets}
+use Prim.Native.Nat.{ℕ}
+use mathlib.Core.Path.{_∙_, ap}
+use lib.ListN.{drop}
+use Rattle.store.specs.Parts.{communityPlace, communityCount, communityOctets}
+use Rattle.store.proofs.Walk.{names-part}
 use Rattle.store.proofs.community_octets.Statement.{statement}
 use Rattle.store.proofs.community_octets.Tie as tie
 
 returns : tie.Need-returns
-unfolding communityOctets
+unfolding communityOctets communityCount
 returns c =
-    let s = c .before .before .before .before .args .image .now in
-    rw (c .behind2 .ensures, c .before .behind .ensures, c .before .before .community-place .ensures) (drop-drop 1 (communityPlace s) s)
+    let s = c .before .before .before .before .before .before .before .args .image .now in
+    let place = c .before .before .before .before .before .community-place .ensures in
+    c .part .ensures
+    ∙ names-part s (communityPlace s) (c .before .before .before .before .behind .ensures ∙ ap (λ (p : ℕ). drop p s) place) (c .before .before .before .behind2 .ensures)
+    (c .before .before .octet-at .ensures .0)
+    (c .before .names-end .ensures)
 
 pub community-octets-spec : {M : Type 1} → statement M
 community-octets-spec =
-    tie.close (tie.spec (λ c κs. search needs) (λ c κs. search needs) (λ c κs. search needs) returns)
+    tie.close (tie.spec (λ c κs. search needs) (λ c κs. search needs) (λ c κs. search needs) (λ c κs. search needs) (λ c κs. search needs) (λ c κs. search needs) returns)

@@ -17,54 +17,25 @@ Inv-loop types o k₀ k = (k ≤ typeRows) × (rowOf (drop k tampTypes) o ≡ re
 abbrev μ-loop : tie.MeasureT-loop
 μ-loop types o k₀ k = typeRows - k
 
-loop-holds : tie.Need-loop-holds Inv-loop μ-loop
-loop-holds c = (omega arith, types-start _)
-
-mul-part : tie.Need-mul-part Inv-loop μ-loop
-mul-part c = omega arith
-
-mul-part-2 : tie.Need-mul-part-2 Inv-loop μ-loop
-mul-part-2 c = omega arith
-
-add-part : tie.Need-add-part Inv-loop μ-loop
-add-part c = omega arith
-
-returns : tie.Need-returns Inv-loop μ-loop
-returns c =
-    let l = c .before .before .before .before .before .loop in
-    let e = types-compared _ (l .k) (c .before .before .before .before .before .before .before .before .pre) (c .before .before .before .part .ensures) (c .before .before .equal .ensures) in
-    ap Tamp (c .type-at .ensures) ∙ sym (types-here _ (l .k) (c .before .before .before .before .loop-test .taken) (sym e ∙ c .before .if1 .taken)) ∙ l .inv .1
-
-add-k : tie.Need-add-k Inv-loop μ-loop
-add-k c = omega arith
-
-loop-less : tie.Need-loop-less Inv-loop μ-loop
-loop-less c = omega arith
-
-loop-again : tie.Need-loop-again Inv-loop μ-loop
-loop-again c =
-    let l = c .before .before .before .before .loop in
-    let e = types-compared _ (l .k) (c .before .before .before .before .before .before .before .pre) (c .before .before .part .ensures) (c .before .equal .ensures) in
-    (omega arith, sym (types-next _ (l .k) (c .before .before .before .loop-test .taken) (sym e ∙ c .if1 .left)) ∙ l .inv .1)
-
-returns-2 : tie.Need-returns-2 Inv-loop μ-loop
-returns-2 c = sym (types-end _ _ (c .loop-test .left)) ∙ c .before .loop .inv .1
-
 pub find-type-spec : {M : Type 1} → statement M
 find-type-spec =
     tie.close
-    (tie.spec
-    Inv-loop
-    μ-loop
-    loop-holds
-    mul-part
-    mul-part-2
-    add-part
+    (tie.spec Inv-loop μ-loop
+    (λ c. (omega arith, types-start _))
+    (λ c. omega arith)
+    (λ c. omega arith)
+    (λ c. omega arith)
     (λ c κs. search needs)
     (λ c κs. search needs)
     (λ c κs. search needs)
-    returns
-    add-k
-    loop-less
-    loop-again
-    returns-2)
+    (λ c.
+    let l = c .before .before .before .before .before .loop in
+    let e = types-compared _ (l .k) (c .before .before .before .before .before .before .before .before .pre) (c .before .before .before .part .ensures) (c .before .before .equal .ensures) in
+    ap Tamp (c .type-at .ensures) ∙ sym (types-here _ (l .k) (c .before .before .before .before .loop-test .taken) (sym e ∙ c .before .if1 .taken)) ∙ l .inv .1)
+    (λ c. omega arith)
+    (λ c. omega arith)
+    (λ c.
+    let l = c .before .before .before .before .loop in
+    let e = types-compared _ (l .k) (c .before .before .before .before .before .before .before .pre) (c .before .before .part .ensures) (c .before .equal .ensures) in
+    (omega arith, sym (types-next _ (l .k) (c .before .before .before .loop-test .taken) (sym e ∙ c .if1 .left)) ∙ l .inv .1))
+    (λ c. sym (types-end _ _ (c .loop-test .left)) ∙ c .before .loop .inv .1))

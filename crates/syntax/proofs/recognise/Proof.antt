@@ -5,9 +5,6 @@ use borrow.Author.Needs.{needs}
 use Rattle.syntax.proofs.recognise.Statement.{statement}
 use Rattle.syntax.proofs.recognise.Tie as tie
 
-find-type-requires : tie.Need-find-type-requires
-unfolding typeTable
-find-type-requires c κs = refl
-
 pub recognise-spec : {M : Type 1} → statement M
-recognise-spec = tie.close (tie.spec (λ c. search needs) find-type-requires (λ c. search needs))
+unfolding typeTable
+recognise-spec = tie.close (tie.spec (λ c. search needs) (λ c κs. refl) (λ c. search needs))

@@ -5,8 +5,8 @@ use borrow.Author.Needs.{needs}
 use Rattle.syntax.proofs.type_at.Statement.{statement}
 use Rattle.syntax.proofs.type_at.Tie as tie
 
-returns-4 : tie.Need-returns-4
-returns-4 c = sym (type-last _ (c .match .rest .0 .0 .1) (c .match .rest .0 .1) (c .match .rest .1))
-
 pub type-at-spec : {M : Type 1} → statement M
-type-at-spec = tie.close (tie.spec (λ c. search needs) (λ c. search needs) (λ c. search needs) returns-4)
+type-at-spec =
+    tie.close
+    (tie.spec (λ c. search needs) (λ c. search needs) (λ c. search needs)
+    (λ c. sym (type-last _ (c .match .rest .0 .0 .1) (c .match .rest .0 .1) (c .match .rest .1))))

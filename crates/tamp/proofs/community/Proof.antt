@@ -5,7 +5,7 @@ use lib.Seq.{length-take-le}
 use Rattle.apply.specs.Scratch.{Scratch}
 use Rattle.tamp.proofs.Parts.{whole-fits}
 use Rattle.tamp.proofs.Signers.{written-scratch}
-use Rattle.tamp.proofs.Effects.{held-short, status-small, community-long, community-written}
+use Rattle.tamp.proofs.Effects.{held-short, community-long, community-written}
 use borrow.Author.Needs.{needs}
 use Rattle.tamp.proofs.community.Statement.{statement}
 use Rattle.tamp.proofs.community.Tie as tie
@@ -40,10 +40,7 @@ returns c = let k = c .before .before .before .before .before .before .before .b
     (c .refusal .ensures)
 
 put-community-confirm-requires : tie.Need-put-community-confirm-requires
-put-community-confirm-requires c κs = let k = c .before .before .before .before .before .before .before .before .before in let a = start k .args in let p = start k .pre in let w = numbered k in let d = c .before .before .before .before .before .before .community-update in (
-  status-small (a .s .now) (a .q) (w .store) (d .ensures .status (w .store) (w .holds)),
-  omega (arith, c .before .before .confirm-size .ensures .0 (d .result .status), c .before .if1 .left, p .0 .reply),
-)
+put-community-confirm-requires c κs = let k = c .before .before .before .before .before .before .before .before .before in let p = start k .pre in let d = c .before .before .before .before .before .before .community-update in omega (arith, c .before .before .confirm-size .ensures .0 (d .result .status), c .before .if1 .left, p .0 .reply)
 
 array-share-prefix-work : tie.Need-array-share-prefix-work
 array-share-prefix-work c = after (c .before .before .before .before .before .before .before .before .before) .holds .inside

@@ -1,13 +1,14 @@
 -- `tamp::decide` meets its contract. Assumes nothing.
 use native.Mathlib.Omega.{arith}
-use Rattle.tamp.proofs.Decided.{refusal-given, refused-by, accepted-given, accepted-by}
+use Rattle.tamp.proofs.Parts.{image-short}
+use Rattle.tamp.proofs.Decided.{refused-by, accepted-given, accepted-by}
 use borrow.Author.Needs.{needs}
 use Rattle.tamp.proofs.decide.Statement.{statement}
 use Rattle.tamp.proofs.decide.Tie as tie
 
 refuse-requires : tie.Need-refuse-requires
-refuse-requires c κs = let a = c .before .before .before .before .before .before .before .before .before .before .before .args in
-    refusal-given (a .message .now) (a .image .now) (a .verdict .now) (λ k. omega (arith, c .before .before .before .before .before .before .before .before .before .shared-slice-known2 .given k)) (c .before .before .before .before .before .judge .ensures) (c .before .before .before .before .before .before .before .before .before .before .before .pre .0) (c .before .before .before .before .before .before .before .before .before .before .before .pre .1) (c .before .before .before .r .given .1)
+refuse-requires c κs = let k = c .before .before .before .before .before .before .before .before .before .before .before in let g = k .pre .1 in
+    (k .pre .0, image-short (k .args .image .now) (g .store) (λ k. omega (arith, c .before .before .before .before .before .before .before .before .before .shared-slice-known2 .given k)) (g .decodes))
 
 accepted-requires : tie.Need-accepted-requires
 accepted-requires c κs = let a = c .before .before .before .before .before .before .before .before .before .before .before .args in

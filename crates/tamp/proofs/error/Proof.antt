@@ -24,7 +24,7 @@ returns c = let a = c .before .before .before .before .before .before .before .b
     (c .refusal .ensures)
 
 put-error-requires : tie.Need-put-error-requires
-put-error-requires c κs = let p = c .before .before .before .before .before .before .before .before .before .pre in (p .1, omega (arith, c .before .before .error-size .ensures (c .before .before .before .before .before .before .before .before .before .args .status), c .before .if1 .left, p .0 .reply))
+put-error-requires c κs = let p = c .before .before .before .before .before .before .before .before .before .pre in omega (arith, c .before .before .error-size .ensures (c .before .before .before .before .before .before .before .before .before .args .status), c .before .if1 .left, p .0 .reply)
 
 returns-2 : tie.Need-returns-2
 returns-2 c = let a = c .before .before .before .before .before .before .before .before .before .before .before .before .before .before .before .before .args in

@@ -31,7 +31,7 @@ slice-aggregate-error : tie.Need-slice-aggregate-error
 slice-aggregate-error c = sym (length-take-le _ _ (numbered (c .before .before .before .before .before) .holds .inside))
 
 error-requires : tie.Need-error-requires
-error-requires c κs = (start (c .before .before .before .before .before .before .before) .pre .0, omega arith, held-short (numbered (c .before .before .before .before .before .before .before) .holds))
+error-requires c κs = (start (c .before .before .before .before .before .before .before) .pre .0, held-short (numbered (c .before .before .before .before .before .before .before) .holds))
 
 returns : tie.Need-returns
 returns c σ d = let k = c .before .before .before .before .before .before .before .before .before .before .before .before in let a = start k .args in let p = start k .pre in let h = written-holds (k .renumber .ensures σ d) (omega arith) in
