@@ -11,8 +11,8 @@ use Rattle.rights.specs.Rights.{nothing}
 use Rattle.rights.specs.Constraints.{constraintsRights}
 use Rattle.anchor.specs.Info.{rightsOf}
 use Rattle.anchor.proofs.Rights.{value-rights}
-use Rattle.store.specs.declared.Found.{Found}
-use Rattle.store.specs.declared.Found.the-variants.{At, Unverified, Unknown}
+use Rattle.store.specs.declared.FoundSigner.{FoundSigner}
+use Rattle.store.specs.declared.FoundSigner.the-variants.{At, Unverified, Unknown}
 use Rattle.store.specs.Store.{Anchor, Store, anchors, identifierOf, identifiers}
 use Rattle.store.specs.Records.{recordsOf}
 use Rattle.store.specs.Parts.{anchorCount, firstRecord, numberIn, anchorIn}
@@ -26,7 +26,7 @@ use Rattle.accept.specs.Judged.{storeIn}
 
 -- the signer's position is that of an anchor
 module _ (verdict wanted : List ℕ) (j : ℕ) where
-  below-from : (i : ℕ) (ids : List (List ℕ)) (missed : Found) → (missed ≡ At j → ⊥) → signerFrom i ids verdict wanted missed ≡ At j → j < i + length ids
+  below-from : (i : ℕ) (ids : List (List ℕ)) (missed : FoundSigner) → (missed ≡ At j → ⊥) → signerFrom i ids verdict wanted missed ≡ At j → j < i + length ids
   unfolding signerFrom
   below-from i [] missed n e = absurd (n e)
   below-from i (k ∷ ids) missed n e =

@@ -7,7 +7,7 @@ use mathlib.Core.Option.{Option}
 use mathlib.Core.Path.{_≡_, refl, sym, ap, _∙_}
 use lib.ListN.{length, length-map}
 use Rattle.octets.specs.declared.Status.{Status}
-use Rattle.octets.specs.First.{givenIf, refuses, orIf}
+use Rattle.octets.specs.First.{givenIf, refuses, orStatus}
 use Rattle.octets.proofs.First.{row-if}
 use Rattle.octets.specs.Status.{notAuthorized, seqNumFailure}
 use Rattle.der.specs.declared.Element.{Element}
@@ -16,8 +16,8 @@ use Rattle.rights.specs.Rights.{source, authorises}
 use Rattle.rights.specs.Constraints.{constraintsRights}
 use Rattle.rights.specs.Attributes.{pairs}
 use Rattle.rights.proofs.Within.{apex}
-use Rattle.store.specs.declared.Found.{Found}
-use Rattle.store.specs.declared.Found.the-variants as found
+use Rattle.store.specs.declared.FoundSigner.{FoundSigner}
+use Rattle.store.specs.declared.FoundSigner.the-variants as found
 use Rattle.store.specs.Store.{Store}
 use Rattle.store.specs.declared.Number.{Number}
 use Rattle.store.specs.declared.Number.the-variants.{Absent, Is}
@@ -35,7 +35,7 @@ use Rattle.message.specs.Rows.{received}
 use Rattle.message.specs.Target.{targetOf, targetStatus}
 use Rattle.message.proofs.Numbers.{readNumber, asked-seqNum}
 use Rattle.protocol.specs.declared.Judgement.the-variants.{Refuses, Accepts}
-use Rattle.protocol.specs.Acceptance.{rightsAt, numberAt, targetFor, isNamed, messageContent, row-11, tooLow, row-21, refuse, weighed, bySigner}
+use Rattle.protocol.specs.Acceptance.{rightsAt, numberAt, targetFor, isNamed, messageContent, row-11, tooLow, row-21, refuseRequest, judgedAt, bySigner}
 use Rattle.accept.specs.Signer.{recordOf, constraintsAt, rightsOn}
 use Rattle.accept.specs.Judged.{storeIn, judgedOf, judgedIn}
 use Rattle.accept.proofs.Anchors.{signer-below, number-at, rights-at}
@@ -85,20 +85,20 @@ target-refuses target.Named = refl
 target-refuses target.Unsupported = refl
 target-refuses target.Elsewhere = refl
 
--- the rows behind 16: the code's tests, and its status after each row
+-- the rows after 16: the code's tests, and its status after each row
 module _ (σ : Store) (s : List ℕ) (q : Request) (i : ℕ) {t : Target} {a b : Bool} (e : t ≡ targetFor σ s q) (f : a ≡ row-11 (rightsAt σ i) s q)
-    (g : b ≡ row-21 (numberAt σ i) s q) {c c1 c2 : Status} (r : c ≡ targetStatus t) (r1 : c1 ≡ orIf c a notAuthorized) (r2 : c2 ≡ orIf c1 b seqNumFailure) where
-  by-status : weighed σ s q i ≡ givenIf (refuses c2) (refuse q c2) (Accepts q i)
-  unfolding weighed
+    (g : b ≡ row-21 (numberAt σ i) s q) {c c1 c2 : Status} (r : c ≡ targetStatus t) (r1 : c1 ≡ orStatus c a notAuthorized) (r2 : c2 ≡ orStatus c1 b seqNumFailure) where
+  by-status : judgedAt σ s q i ≡ givenIf (refuses c2) (refuseRequest q c2) (Accepts q i)
+  unfolding judgedAt
   by-status =
       let named : not (isNamed (targetFor σ s q)) ≡ refuses c = rw (r, e) (target-refuses (targetFor σ s q)) in
-      rw (named, ← e, ← r) (row-if (refuse q) _ _ r1 f refl _) ∙ row-if (refuse q) _ _ r2 g refl _
+      rw (named, ← e, ← r) (row-if (refuseRequest q) _ _ r1 f refl _) ∙ row-if (refuseRequest q) _ _ r2 g refl _
 
-  pub weigh-refuses : refuses c2 ≡ true → refuse q c2 ≡ weighed σ s q i
+  pub weigh-refuses : refuses c2 ≡ true → refuseRequest q c2 ≡ judgedAt σ s q i
   unfolding givenIf
   weigh-refuses h = sym (by-status ∙ rw h)
 
-  pub weigh-accepts : refuses c2 ≡ false → Accepts q i ≡ weighed σ s q i
+  pub weigh-accepts : refuses c2 ≡ false → Accepts q i ≡ judgedAt σ s q i
   unfolding givenIf
   weigh-accepts h = sym (by-status ∙ rw h)
 
@@ -108,7 +108,7 @@ module _ (image verdict s : List ℕ) where
   unfolding judgedIn judgedOf
   judge-refused e = rw e
 
-  module _ {q : Request} (e : received s ≡ Asks q) {wanted : List ℕ} (w : wanted ≡ contents s (q .signer)) {f g : Found}
+  module _ {q : Request} (e : received s ≡ Asks q) {wanted : List ℕ} (w : wanted ≡ contents s (q .signer)) {f g : FoundSigner}
       (h : f ≡ signer (map identifierIn (recordsOf image)) verdict wanted) (k : f ≡ g) where
     pub judge-by : bySigner (storeIn image) s q g ≡ judgedIn image verdict s
     unfolding judgedIn judgedOf

@@ -16,7 +16,7 @@ use Rattle.protocol.specs.declared.Judgement.{Judgement}
 use Rattle.protocol.specs.declared.Judgement.the-variants.{Refuses}
 use Rattle.protocol.specs.Acceptance.{bySigner}
 
--- octets read as a store: the first record is the apex, and every name behind the last one is a community
+-- octets read as a store: the first record is the apex, and every name after the last one is a community
 unfoldable pub storeIn : List ℕ → Store
 storeIn image =
     let records = recordsOf image in

@@ -2,7 +2,7 @@
 ghost use mathlib.Core.Path.{_≡_};
 ghost use Rattle.store.specs.Parts.{numberIn};
 ghost use Rattle.message.specs.Target.{targetStatus};
-ghost use Rattle.protocol.specs.Acceptance.{targetFor, row-11, tooLow, row-21, refuse as refuseOf, weighed};
+ghost use Rattle.protocol.specs.Acceptance.{targetFor, row-11, tooLow, row-21, refuseRequest as refuseOf, judgedAt};
 ghost use Rattle.accept.specs.Signer.{recordOf, constraintsAt, rightsOn};
 ghost use Rattle.accept.specs.Given.{Asking, AtRecord};
 ghost use Rattle.accept.specs.Judged.{storeIn, judgedIn};
@@ -12,7 +12,7 @@ use message::Request;
 use message::Target;
 use octets::Status;
 use protocol::Judgement;
-use store::Found;
+use store::FoundSigner;
 use store::Number;
 use syntax::TampType;
 
@@ -37,7 +37,7 @@ fn record_of(image: &[u8], i: usize) -> &[u8]
     store::record_at(image, store::record_place(image, i))
 }
 
-// What the anchor at a position behind the apex may: the octets of its content constraints, as a part of the image.
+// What the anchor at a position after the apex may: the octets of its content constraints, as a part of the image.
 fn rights_at(image: &[u8], i: usize) -> &[u8]
     ensures { λ r. ⌜ now r ≡ constraintsAt (now (image .entry)) i ⌝ }
 {
@@ -77,7 +77,7 @@ fn is_number_refused(image: &[u8], i: usize, s: &[u8], q: Request) -> bool
         return false;
     };
     let kind = q.kind;
-    let n = message::number_in(s, der::field(s, q.msgref, 0x02));
+    let n = message::number_in(s, der::field(s, q.msgref, der::INTEGER));
     is_too_low(kind, stored, n)
 }
 
@@ -105,10 +105,10 @@ fn target_for(image: &[u8], s: &[u8], q: Request) -> Target
     )
 }
 
-// The rows behind 16, by the anchor at position i.
-fn weigh(s: &[u8], image: &[u8], q: Request, i: usize) -> Judgement
+// The rows after 16, by the anchor at position i.
+fn judge_at(s: &[u8], image: &[u8], q: Request, i: usize) -> Judgement
     ensures { λ r.
-        ⌜ Asking (now (s .entry)) q (AtRecord (now (image .entry)) i (r ≡ weighed (storeIn (now (image .entry))) (now (s .entry)) q i)) ⌝ }
+        ⌜ Asking (now (s .entry)) q (AtRecord (now (image .entry)) i (r ≡ judgedAt (storeIn (now (image .entry))) (now (s .entry)) q i)) ⌝ }
 {
     let status = target_status(target_for(image, s, q))
         .or_if(is_unauthorised(image, i, s, q), Status::NOT_AUTHORIZED)
@@ -128,9 +128,9 @@ pub fn judge(s: &[u8], image: &[u8], verdict: &[u8]) -> Judgement
         Received::Asks(q) => {
             let identifier = message::key_identifier(s, q);
             match store::find_signer(image, verdict, identifier) {
-                Found::Unknown => refuse(q, Status::NO_TRUST_ANCHOR),
-                Found::Unverified => refuse(q, Status::SIGNATURE_FAILURE),
-                Found::At(i) => weigh(s, image, q, i),
+                FoundSigner::Unknown => refuse(q, Status::NO_TRUST_ANCHOR),
+                FoundSigner::Unverified => refuse(q, Status::SIGNATURE_FAILURE),
+                FoundSigner::At(i) => judge_at(s, image, q, i),
             }
         }
     }

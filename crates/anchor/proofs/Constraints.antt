@@ -12,11 +12,11 @@ use Rattle.octets.specs.Lists.{allOf, anyOf}
 use Rattle.octets.specs.Octets.{same, distinct}
 use Rattle.octets.proofs.Lists.{by-test, anyOf-map}
 use Rattle.der.specs.declared.Element.{Element}
-use Rattle.der.specs.Element.{elementAt, elements, root, whole, contents, field, inside, nextAt}
+use Rattle.der.specs.Element.{elementAt, elements, root, encoding, contents, field, inside, nextAt}
 use Rattle.rights.specs.Rights.{Key, Constraints, Entry, Rights, anyContentType}
 use Rattle.rights.specs.Constraints.{attrConstraint, contentTypeConstraint, constraintsRights}
 use Rattle.anchor.specs.declared.Faults.{Faults}
-use Rattle.der.specs.declared.Compared.the-variants.{Types, Octets}
+use Rattle.der.specs.declared.Compared.the-variants.{Types, Encodings}
 use Rattle.anchor.specs.Judge.{typesIn, repeatedConstraint, anyContentTypeUnlike, overEntries, overAttributes, overValues, overValueOctets}
 use Rattle.der.specs.Keys.{keyOf}
 use Rattle.anchor.specs.Faults.{noFaults, together, faultsIn, attributeFaults, isUnlike, entryFaults, rightsFaults}
@@ -73,13 +73,13 @@ map-length f (x ∷ l) = ap suc (map-length f l)
 
 pub attribute-faults : (v : List ℕ) (a : Element) {x : Element} {d m o : Bool}
     → x ≡ field 0x31 v a
-    → d ≡ distinct (map (keyOf Octets v) (inside v x))
+    → d ≡ distinct (map (keyOf Encodings v) (inside v x))
     → m ≡ ltb maxValues (length (inside v x))
-    → o ≡ anyOf (λ e. ltb maxValueOctets (length (whole v e))) (inside v x)
+    → o ≡ anyOf (λ e. ltb maxValueOctets (length (encoding v e))) (inside v x)
     → record { repeated = not d; unlike = false; entries = false; attributes = false; values = m; octets = o } ≡ attributeFaults (attrConstraint v a)
 unfolding attributeFaults attrConstraint keyOf
 attribute-faults v a {x} hx hd hm ho =
-    rw (hd, hm, ho, hx, map-length (whole v) (inside v (field 0x31 v a)), anyOf-map (λ v. ltb maxValueOctets (length v)) (whole v) (inside v (field 0x31 v a)))
+    rw (hd, hm, ho, hx, map-length (encoding v) (inside v (field 0x31 v a)), anyOf-map (λ v. ltb maxValueOctets (length v)) (encoding v) (inside v (field 0x31 v a)))
 
 -- an entry
 
@@ -97,18 +97,18 @@ module _ (v : List ℕ) (e : Element) {k : List ℕ} {b : Bool} (hk : k ≡ cont
   unfolding isUnlike contentTypeConstraint
   unlike-other t = rw (sym unlike-test ∙ t)
 
-  pub unlike-generation : {g : Element} → b ≡ true → g ≡ field 0x0A v e → g .good ≡ true → isUnlike (contentTypeConstraint v e) ≡ true
+  pub unlike-generation : {g : Element} → b ≡ true → g ≡ field 0x0A v e → g .valid ≡ true → isUnlike (contentTypeConstraint v e) ≡ true
   unfolding isUnlike contentTypeConstraint
   unlike-generation {g} t q h =
-      let good : field 0x0A v e .good ≡ true = ap (λ (x : Element). x .good) (sym q) ∙ h in
-      rw (sym unlike-test ∙ t, good)
+      let valid : field 0x0A v e .valid ≡ true = ap (λ (x : Element). x .valid) (sym q) ∙ h in
+      rw (sym unlike-test ∙ t, valid)
 
-  pub unlike-constrained : {g x : Element} {m : Bool} → b ≡ true → g ≡ field 0x0A v e → g .good ≡ false → x ≡ field 0x30 v e → m ≡ ltb 0 (length (inside v x))
+  pub unlike-constrained : {g x : Element} {m : Bool} → b ≡ true → g ≡ field 0x0A v e → g .valid ≡ false → x ≡ field 0x30 v e → m ≡ ltb 0 (length (inside v x))
       → m ≡ isUnlike (contentTypeConstraint v e)
   unfolding isUnlike contentTypeConstraint
   unlike-constrained {g} {x} {m} t q h hx hm =
-      let good : field 0x0A v e .good ≡ false = ap (λ (x : Element). x .good) (sym q) ∙ h in
-      rw (sym unlike-test ∙ t, good, map-length (attrConstraint v) (inside v (field 0x30 v e)), hm, hx) (sym (some-members (length (inside v (field 0x30 v e)))))
+      let valid : field 0x0A v e .valid ≡ false = ap (λ (x : Element). x .valid) (sym q) ∙ h in
+      rw (sym unlike-test ∙ t, valid, map-length (attrConstraint v) (inside v (field 0x30 v e)), hm, hx) (sym (some-members (length (inside v (field 0x30 v e)))))
 
 -- the types in front of the members of a list
 attribute-types : (v : List ℕ) (es : List Element) → typesIn (map (attrConstraint v) es) ≡ map (keyOf Types v) es

@@ -15,16 +15,16 @@ use Rattle.der.specs.Check.{spans}
 use Rattle.syntax.specs.Grammar.{fit}
 use Rattle.syntax.specs.Asn.{CMSContentConstraints}
 use Rattle.syntax.proofs.Each.{Every, kept-fits, then-both}
-use Rattle.syntax.proofs.Rules.{octets-part}
+use Rattle.syntax.proofs.Rules.{octets-slice}
 use Rattle.rights.specs.Rights.{nothing}
 use Rattle.rights.proofs.Witness.{Few, ValidEntry, ValidRights}
 use Rattle.rights.proofs.ValidKeys.{valid-keys}
-use Rattle.anchor.specs.declared.Judged.{Judged}
+use Rattle.anchor.specs.declared.AnchorCheck.{AnchorCheck}
 use Rattle.anchor.specs.Info.{constraintsExtension, hasConstraints, constraintsValue, rightsOf}
-use Rattle.anchor.specs.Judge.{statusOf, passes, conforms, badConstraints, overEntries, overValues, judge}
+use Rattle.anchor.specs.Judge.{checkStatus, passes, conforms, badConstraints, overEntries, overValues, judge}
 
 -- an answer that is no pass was not given
-past : (b : Bool) (answer next : Judged) → passes answer ≡ false → passes (givenIf b answer next) ≡ true → (b ≡ false) × (passes next ≡ true)
+past : (b : Bool) (answer next : AnchorCheck) → passes answer ≡ false → passes (givenIf b answer next) ≡ true → (b ≡ false) × (passes next ≡ true)
 unfolding givenIf
 past true answer next h e = absurd (true≢false (sym e ∙ h))
 past false answer next h e = (refl, e)
@@ -41,7 +41,7 @@ pub record Passed (t : List ℕ) : Type 0 where
   pub values : overValues (rightsOf t) ≡ false
 
 pub passed : (t : List ℕ) → passes (judge t) ≡ true → Passed t
-unfolding judge statusOf
+unfolding judge checkStatus
 passed t e =
     let version = past _ _ _ refl e in
     let path = past _ _ _ refl (version .1) in
@@ -67,7 +67,7 @@ module _ (t : List ℕ) (o : Octets t) (e : passes (judge t) ≡ true) where
       let x = field 0x04 t (constraintsExtension t) in
       let c = not-false (conforms CMSContentConstraints v) (rw g at (passed t e .constraints)) in
       let h = then-both (spans maxDepth v 0 (length v) 0) (fit CMSContentConstraints v 0 (length v) 0) (kept-fits _ c) in
-      rw (g, rightsOf) (valid-keys v (octets-part t (x .start) (x .stop) o) (h .0) (h .1)))
+      rw (g, rightsOf) (valid-keys v (octets-slice t (x .start) (x .stop) o) (h .0) (h .1)))
       (λ g. rw (g, rightsOf) tt)
 
   pub valid-rights : ValidRights (rightsOf t)

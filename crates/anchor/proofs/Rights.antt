@@ -8,7 +8,7 @@ use lib.Dec.{ltb}
 use borrow.Author.Tests.{ltb-true, ltb-false}
 use Rattle.octets.specs.Octets.{same}
 use Rattle.octets.proofs.Lists.{by-test}
-use Rattle.octets.proofs.Parts.{part-none}
+use Rattle.octets.proofs.Parts.{slice-none}
 use Rattle.der.specs.declared.Element.{Element}
 use Rattle.octets.specs.Number.{digits}
 use Rattle.der.specs.Oid.{oid, arc, arcs}
@@ -27,13 +27,13 @@ use Rattle.der.specs.Keys.{keyOf, firstWith, elementFound}
 use Rattle.der.proofs.Runs.{run-turn, run-on}
 use Rattle.der.proofs.Keys.{first-hit, first-miss}
 
-absent-empty : (s : List ℕ) (at stop : ℕ) {e : Element} → e ≡ elementAt s at stop → e .good ≡ false → e .start ≡ e .stop
+absent-empty : (s : List ℕ) (at stop : ℕ) {e : Element} → e ≡ elementAt s at stop → e .valid ≡ false → e .start ≡ e .stop
 absent-empty s at stop {e} q g =
     header-or-not s at stop
-    (λ h. absurd (true≢false (ap (λ (x : Element). x .good) (sym (q ∙ element-is s at stop h)) ∙ g)))
+    (λ h. absurd (true≢false (ap (λ (x : Element). x .valid) (sym (q ∙ element-is s at stop h)) ∙ g)))
     (λ n. rw (q ∙ element-absent s at stop n))
 
-found-empty : (n : ℕ) (s k : List ℕ) (at stop : ℕ) → stop - at ≤ n → {e : Element} → firstWith Types s k (elements s at stop) ≡ At e → e .good ≡ false
+found-empty : (n : ℕ) (s k : List ℕ) (at stop : ℕ) → stop - at ≤ n → {e : Element} → firstWith Types s k (elements s at stop) ≡ At e → e .valid ≡ false
     → e .start ≡ e .stop
 unfolding firstWith
 found-empty zero s k at stop h f g = let z = rw (elements-end s at stop (omega arith)) at f in cc
@@ -67,7 +67,7 @@ no-extension t g = go (firstWith Types t id-pe-cmsContentConstraints (inside t l
     l : Element
     l = field 0x30 t (field 0xA1 t (root t))
 
-    go : (f : Found) → firstWith Types t id-pe-cmsContentConstraints (inside t l) ≡ f → elementFound f .good ≡ false → elementFound f .start ≡ elementFound f .stop
+    go : (f : Found) → firstWith Types t id-pe-cmsContentConstraints (inside t l) ≡ f → elementFound f .valid ≡ false → elementFound f .start ≡ elementFound f .stop
     go (At e) q h = found-empty (l .stop - l .start) t id-pe-cmsContentConstraints (l .start) (l .stop) (omega arith) q h
     go Nowhere q h = refl
 
@@ -75,7 +75,7 @@ no-value : (t : List ℕ) → hasConstraints t ≡ false → constraintsValue t 
 no-value t g =
     let e = constraintsExtension t in
     let h : e .stop ≤ e .start = omega (arith, no-extension t g) in
-    ap (contents t) (with-tag-end 0x04 t (e .start) (e .stop) h) ∙ part-none t 0 0 (omega arith)
+    ap (contents t) (with-tag-end 0x04 t (e .start) (e .stop) h) ∙ slice-none t 0 0 (omega arith)
 
 no-rights : constraintsRights [] ≡ []
 unfolding constraintsRights

@@ -15,7 +15,7 @@ use Rattle.octets.specs.Lists.{anyOf}
 use Rattle.octets.specs.Octets.{distinct}
 use Rattle.octets.proofs.Lists.{by-test}
 use Rattle.der.specs.declared.Element.{Element}
-use Rattle.der.specs.Element.{root, contents, inside, field, fieldBehind}
+use Rattle.der.specs.Element.{root, contents, inside, field, fieldAfter}
 use Rattle.der.specs.Fit.{kept}
 use Rattle.der.specs.Check.{spans}
 use Rattle.syntax.specs.Grammar.{Syntax, fit}
@@ -25,40 +25,15 @@ use Rattle.syntax.proofs.Each.{kept-then}
 use Rattle.syntax.proofs.Whole.{spans-bad, spans-long, spans-run}
 use Rattle.rights.specs.Rights.{Rights}
 use Rattle.rights.specs.Constraints.{constraintsRights}
-use Rattle.anchor.specs.declared.Judged.{Judged}
-use Rattle.anchor.specs.declared.Judged.the-variants as judged
+use Rattle.anchor.specs.declared.AnchorCheck.{AnchorCheck}
+use Rattle.anchor.specs.declared.AnchorCheck.the-variants as judged
 use Rattle.anchor.specs.declared.Faults.{Faults}
 use Rattle.der.specs.declared.Compared.the-variants.{Types}
-use Rattle.anchor.specs.Info.{
-  version,
-  keyIdField,
-  keyIdentifier,
-  certPath,
-  extensions,
-  extnValue,
-  constraintsIn,
-  constraintsExtension,
-  constraintsValue,
-  rightsOf,
-}
+use Rattle.anchor.specs.Info.{version, keyIdField, keyIdentifier, certPath, extensions, extnValue, constraintsIn, constraintsExtension}
+use Rattle.anchor.specs.Info.{constraintsValue, rightsOf}
 use Rattle.anchor.specs.Role.{extensionList}
-use Rattle.anchor.specs.Judge.{
-  statusOf,
-  conforms,
-  repeatedExtension,
-  criticalExtension,
-  badConstraints,
-  repeatedConstraint,
-  anyContentTypeUnlike,
-  identifierOutside,
-  overEntries,
-  overAttributes,
-  overValues,
-  overValueOctets,
-  judgeRights,
-  judge,
-  storable,
-}
+use Rattle.anchor.specs.Judge.{checkStatus, conforms, repeatedExtension, criticalExtension, badConstraints, repeatedConstraint, anyContentTypeUnlike}
+use Rattle.anchor.specs.Judge.{identifierOutside, overEntries, overAttributes, overValues, overValueOctets, judgeRights, judge, storable}
 use Rattle.der.specs.Keys.{keyOf}
 use Rattle.anchor.specs.Faults.{isOtherCritical, rightsFaults}
 use Rattle.anchor.proofs.Constraints.{repeated-fault, unlike-fault, entries-fault, attributes-fault, values-fault, octets-fault}
@@ -90,16 +65,16 @@ module _ (g : Syntax) (t : List ℕ) {e : Element} (q : e ≡ root t) where
   by-spans h =
       ap (λ (b : Bool). b && kept (fit g t 0 (length t) 0)) (sym h) ∙ sym (kept-then (spans maxDepth t 0 (length t) 0) (fit g t 0 (length t) 0))
 
-  pub conforms-bad : e .good ≡ false → false ≡ conforms g t
+  pub conforms-bad : e .valid ≡ false → false ≡ conforms g t
   conforms-bad b = by-spans (spans-bad maxDepth t 0 (length t) 0 q b)
 
-  pub conforms-long : e .good ≡ true → (e .stop ≡ length t → ⊥) → false ≡ conforms g t
+  pub conforms-long : e .valid ≡ true → (e .stop ≡ length t → ⊥) → false ≡ conforms g t
   conforms-long b n = by-spans (spans-long maxDepth t 0 (length t) 0 q b n)
 
-  pub conforms-whole : e .good ≡ true → e .stop ≡ length t → conformsIn maxDepth g t 0 (length t) 0 ≡ conforms g t
+  pub conforms-whole : e .valid ≡ true → e .stop ≡ length t → conformsIn maxDepth g t 0 (length t) 0 ≡ conforms g t
   conforms-whole b h = by-spans (spans-run maxDepth t 0 (length t) 0 q b h)
 
-pub storable-is : (t : List ℕ) {a : Bool} {j : Judged} {n : Status} → a ≡ conforms StoredTrustAnchorInfo t → a ≡ true → j ≡ judge t → n ≡ statusOf j
+pub storable-is : (t : List ℕ) {a : Bool} {j : AnchorCheck} {n : Status} → a ≡ conforms StoredTrustAnchorInfo t → a ≡ true → j ≡ judge t → n ≡ checkStatus j
     → eqb (n .number) (success .number) ≡ storable t
 unfolding storable
 storable-is t p h q r = rw (sym p ∙ h, r, q)
@@ -111,7 +86,7 @@ storable-not t p h = rw (sym p ∙ h)
 -- the parts of a TrustAnchorInfo, each found in the one before it
 
 module _ (t : List ℕ) {info : Element} (i : info ≡ root t) where
-  pub version-is : {e : Element} → e ≡ field 0x02 t info → version t .good ≡ e .good
+  pub version-is : {e : Element} → e ≡ field 0x02 t info → version t .valid ≡ e .valid
   unfolding version
   version-is q = rw (q, i)
 
@@ -119,7 +94,7 @@ module _ (t : List ℕ) {info : Element} (i : info ≡ root t) where
   unfolding keyIdField
   identifier-is q r = rw (r, q, i)
 
-  pub path-is : {id e : Element} → id ≡ field 0x04 t info → e ≡ fieldBehind 0x30 t info id → certPath t .good ≡ e .good
+  pub path-is : {id e : Element} → id ≡ field 0x04 t info → e ≡ fieldAfter 0x30 t info id → certPath t .valid ≡ e .valid
   unfolding certPath keyIdField
   path-is q r = rw (r, q, i)
 
@@ -143,11 +118,11 @@ module _ (t : List ℕ) {e : Element} (p : e ≡ constraintsExtension t) {v : Li
   pub value-is : v ≡ constraintsValue t
   value-is = rw (q, p)
 
-  pub bad-constraints-is : {b : Bool} → b ≡ (e .good && not (conforms CMSContentConstraints v)) → badConstraints t ≡ b
+  pub bad-constraints-is : {b : Bool} → b ≡ (e .valid && not (conforms CMSContentConstraints v)) → badConstraints t ≡ b
   unfolding badConstraints
   bad-constraints-is r = rw (r, q, p)
 
-pub rights-is : (t : List ℕ) {k v : List ℕ} {j : Judged} → k ≡ keyIdentifier t → v ≡ constraintsValue t → j ≡ judgeRights t k (constraintsRights v)
+pub rights-is : (t : List ℕ) {k v : List ℕ} {j : AnchorCheck} → k ≡ keyIdentifier t → v ≡ constraintsValue t → j ≡ judgeRights t k (constraintsRights v)
     → j ≡ judgeRights t (keyIdentifier t) (rightsOf t)
 rights-is t p q h = h ∙ ap₂ (judgeRights t) p (ap constraintsRights q ∙ value-rights t)
 
@@ -172,18 +147,18 @@ module _ (r : Rights) {f : Faults} (h : f ≡ rightsFaults r) where
   pub octets-is : overValueOctets r ≡ f .octets
   octets-is = rw h (sym (octets-fault r))
 
--- "The first that applies is given": stages in their order and what is given behind them
+-- "The first that applies is given": stages in their order and what is given after them
 
-abbrev stages : List ℕ → List (Bool × Judged)
+abbrev stages : List ℕ → List (Bool × AnchorCheck)
 stages t =
-    (version t .good, judged.OtherVersion)
-    ∷ (certPath t .good, judged.CertPath)
+    (version t .valid, judged.OtherVersion)
+    ∷ (certPath t .valid, judged.CertPath)
     ∷ (repeatedExtension t, judged.RepeatedExtension)
     ∷ (criticalExtension t, judged.CriticalExtension)
     ∷ (badConstraints t, judged.ConstraintsSyntax)
     ∷ []
 
-abbrev rightsStages : List ℕ → List ℕ → Rights → List (Bool × Judged)
+abbrev rightsStages : List ℕ → List ℕ → Rights → List (Bool × AnchorCheck)
 rightsStages t k r =
     (repeatedConstraint r, judged.RepeatedConstraint)
     ∷ (anyContentTypeUnlike r, judged.AnyContentTypeEntry)
@@ -195,15 +170,15 @@ rightsStages t k r =
     ∷ (overValueOctets r, judged.ValueOctets)
     ∷ []
 
-unfoldable pub firstOf : List (Bool × Judged) → Judged → Judged
+unfoldable pub firstOf : List (Bool × AnchorCheck) → AnchorCheck → AnchorCheck
 firstOf [] last = last
 firstOf (s ∷ l) last = givenIf (s .0) (s .1) (firstOf l last)
 
 -- an answer is what stages give
-pub record From (j : Judged) (l : List (Bool × Judged)) (last : Judged) : Type 0 where
+pub record From (j : AnchorCheck) (l : List (Bool × AnchorCheck)) (last : AnchorCheck) : Type 0 where
   pub is : j ≡ firstOf l last
 
-module _ {j answer last : Judged} {b : Bool} {l : List (Bool × Judged)} (p : From j ((b, answer) ∷ l) last) where
+module _ {j answer last : AnchorCheck} {b : Bool} {l : List (Bool × AnchorCheck)} (p : From j ((b, answer) ∷ l) last) where
   pub passed : b ≡ false → From j l last
   unfolding firstOf givenIf
   passed h = record { is = p .is ∙ rw h }
@@ -212,7 +187,7 @@ module _ {j answer last : Judged} {b : Bool} {l : List (Bool × Judged)} (p : Fr
   unfolding firstOf givenIf
   given h = sym (p .is ∙ rw h)
 
-pub given-last : {j last : Judged} → From j [] last → last ≡ j
+pub given-last : {j last : AnchorCheck} → From j [] last → last ≡ j
 unfolding firstOf
 given-last p = sym (p .is)
 

@@ -1,6 +1,6 @@
 -- What content constraints break of 34 and 17, found in one pass over them: an equal account of those tests of Judge that read the rights.
 use Prim.Native.Nat.{ℕ}
-use mathlib.Core.Bool.{Bool, true, false, not, _&&_, _||_}
+use mathlib.Core.Bool.{Bool, false, not, _&&_, _||_}
 use mathlib.Core.List.{List, [], _∷_}
 use lib.ListN.{length}
 use lib.Dec.{ltb, eqb}
@@ -8,7 +8,7 @@ use Rattle.octets.specs.Limits.{maxEntries, maxAttributes, maxValues, maxValueO
 use Rattle.octets.specs.Lists.{anyOf}
 use Rattle.octets.specs.Octets.{same, distinct}
 use Rattle.der.specs.declared.Element.{Element}
-use Rattle.der.specs.Element.{whole, contents, field}
+use Rattle.der.specs.Element.{encoding}
 use Rattle.rights.specs.Rights.{Key, Entry, Rights, anyContentType}
 use Rattle.anchor.specs.declared.Faults.{Faults}
 use Rattle.anchor.specs.Info.{critical, isConstraints}
@@ -17,7 +17,7 @@ use Rattle.anchor.specs.Judge.{typesIn}
 -- the tests that are made of each member of a run: 17, a value over the limit; 34, "a critical one but content constraints"
 
 abbrev pub isLong : List ℕ → Element → Bool
-isLong s e = ltb maxValueOctets (length (whole s e))
+isLong s e = ltb maxValueOctets (length (encoding s e))
 
 abbrev pub isOtherCritical : List ℕ → Element → Bool
 isOtherCritical t e = critical t e && not (isConstraints t e)

@@ -5,7 +5,7 @@ use mathlib.Core.List.{List}
 use Rattle.octets.specs.Octets.{same}
 use Rattle.der.specs.declared.Element.{Element}
 use Rattle.der.specs.declared.Compared.the-variants.{Types}
-use Rattle.der.specs.Element.{root, whole, contents, inside, field, fieldBehind}
+use Rattle.der.specs.Element.{root, encoding, contents, inside, field, fieldAfter}
 use Rattle.der.specs.Keys.{typeOf, firstWith, elementFound}
 use Rattle.syntax.specs.Types.{id-pe-cmsContentConstraints}
 use Rattle.rights.specs.Rights.{Rights, nothing}
@@ -17,7 +17,7 @@ version t = field 0x02 t (root t)
 
 -- 01, The store image: the public key is the SubjectPublicKeyInfo's octets
 unfoldable pub publicKey : List ℕ → List ℕ
-publicKey t = whole t (field 0x30 t (root t))
+publicKey t = encoding t (field 0x30 t (root t))
 
 unfoldable pub keyIdField : List ℕ → Element
 keyIdField t = field 0x04 t (root t)
@@ -26,14 +26,14 @@ abbrev pub keyIdentifier : List ℕ → List ℕ
 keyIdentifier t = contents t (keyIdField t)
 
 unfoldable pub certPath : List ℕ → Element
-certPath t = fieldBehind 0x30 t (root t) (keyIdField t)
+certPath t = fieldAfter 0x30 t (root t) (keyIdField t)
 
 -- the members of Extensions, and an extension's parts
 unfoldable pub extensions : List ℕ → List Element
 extensions t = inside t (field 0x30 t (field 0xA1 t (root t)))
 
 abbrev pub critical : List ℕ → Element → Bool
-critical t e = field 0x01 t e .good
+critical t e = field 0x01 t e .valid
 
 abbrev pub extnValue : List ℕ → Element → List ℕ
 extnValue t e = contents t (field 0x04 t e)
@@ -50,7 +50,7 @@ constraintsExtension t = constraintsIn t (extensions t)
 
 -- 01, listing: "management if it has constraints"
 abbrev pub hasConstraints : List ℕ → Bool
-hasConstraints t = constraintsExtension t .good
+hasConstraints t = constraintsExtension t .valid
 
 -- RFC 6010: CMSContentConstraints, as octets by itself
 abbrev pub constraintsValue : List ℕ → List ℕ

@@ -16,29 +16,29 @@ use Rattle.der.specs.Keys.{typeOf}
 use Rattle.syntax.specs.Grammar.{Syntax, fit}
 use Rattle.syntax.specs.Asn.{StoredTrustAnchorInfo, CMSContentConstraints}
 use Rattle.rights.specs.Rights.{Key, Rights, anyContentType}
-use Rattle.anchor.specs.declared.Judged.{Judged}
-use Rattle.anchor.specs.declared.Judged.the-variants as judged
+use Rattle.anchor.specs.declared.AnchorCheck.{AnchorCheck}
+use Rattle.anchor.specs.declared.AnchorCheck.the-variants as judged
 use Rattle.anchor.specs.Info.{version, keyIdentifier, certPath, extensions, critical, isConstraints, hasConstraints, constraintsValue, rightsOf}
 
 -- 01's numbers
-unfoldable pub statusOf : Judged → Status
-statusOf judged.Passes = success
-statusOf judged.OtherVersion = unsupportedTrustAnchorFormat
-statusOf judged.CertPath = unsupportedTrustAnchorFormat
-statusOf judged.RepeatedExtension = unsupportedTrustAnchorFormat
-statusOf judged.CriticalExtension = unsupportedTrustAnchorFormat
-statusOf judged.ConstraintsSyntax = unsupportedTrustAnchorFormat
-statusOf judged.RepeatedConstraint = unsupportedTrustAnchorFormat
-statusOf judged.AnyContentTypeEntry = unsupportedTrustAnchorFormat
-statusOf judged.AnchorOctets = insufficientMemory
-statusOf judged.KeyIdentifierOctets = insufficientMemory
-statusOf judged.EntryCount = insufficientMemory
-statusOf judged.AttributeCount = insufficientMemory
-statusOf judged.ValueCount = insufficientMemory
-statusOf judged.ValueOctets = insufficientMemory
+unfoldable pub checkStatus : AnchorCheck → Status
+checkStatus judged.Passes = success
+checkStatus judged.OtherVersion = unsupportedTrustAnchorFormat
+checkStatus judged.CertPath = unsupportedTrustAnchorFormat
+checkStatus judged.RepeatedExtension = unsupportedTrustAnchorFormat
+checkStatus judged.CriticalExtension = unsupportedTrustAnchorFormat
+checkStatus judged.ConstraintsSyntax = unsupportedTrustAnchorFormat
+checkStatus judged.RepeatedConstraint = unsupportedTrustAnchorFormat
+checkStatus judged.AnyContentTypeEntry = unsupportedTrustAnchorFormat
+checkStatus judged.AnchorOctets = insufficientMemory
+checkStatus judged.KeyIdentifierOctets = insufficientMemory
+checkStatus judged.EntryCount = insufficientMemory
+checkStatus judged.AttributeCount = insufficientMemory
+checkStatus judged.ValueCount = insufficientMemory
+checkStatus judged.ValueOctets = insufficientMemory
 
-abbrev pub passes : Judged → Bool
-passes j = eqb (statusOf j .number) (success .number)
+abbrev pub passes : AnchorCheck → Bool
+passes j = eqb (checkStatus j .number) (success .number)
 
 -- octets by themselves: DER, depth counted from their element, and of a syntax
 unfoldable pub conforms : Syntax → List ℕ → Bool
@@ -86,8 +86,8 @@ overValues r = anyOf (λ e. anyOf (λ a. ltb maxValues (length (a .1))) (e .1 .c
 unfoldable pub overValueOctets : Rights → Bool
 overValueOctets r = anyOf (λ e. anyOf (λ a. anyOf (λ v. ltb maxValueOctets (length v)) (a .1)) (e .1 .constraints)) r
 
--- The checks behind those of syntax: of a TrustAnchorInfo's rights r, and of its size and that of its key identifier k.
-abbrev pub judgeRights : List ℕ → List ℕ → Rights → Judged
+-- The checks after those of syntax: of a TrustAnchorInfo's rights r, and of its size and that of its key identifier k.
+abbrev pub judgeRights : List ℕ → List ℕ → Rights → AnchorCheck
 judgeRights t k r =
     givenIf (repeatedConstraint r) judged.RepeatedConstraint
     (givenIf (anyContentTypeUnlike r) judged.AnyContentTypeEntry
@@ -99,10 +99,10 @@ judgeRights t k r =
     (givenIf (overValueOctets r) judged.ValueOctets judged.Passes)))))))
 
 -- The checks of a TrustAnchorInfo, in the order of 01. (The certificate forms are told by the TrustAnchorChoice around it.)
-unfoldable pub judge : List ℕ → Judged
+unfoldable pub judge : List ℕ → AnchorCheck
 judge t =
-    givenIf (version t .good) judged.OtherVersion
-    (givenIf (certPath t .good) judged.CertPath
+    givenIf (version t .valid) judged.OtherVersion
+    (givenIf (certPath t .valid) judged.CertPath
     (givenIf (repeatedExtension t) judged.RepeatedExtension
     (givenIf (criticalExtension t) judged.CriticalExtension
     (givenIf (badConstraints t) judged.ConstraintsSyntax (judgeRights t (keyIdentifier t) (rightsOf t))))))

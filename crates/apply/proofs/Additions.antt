@@ -8,8 +8,8 @@ use lib.ListN.{length, take, drop, set, length-append, length-set}
 use lib.Seq.{take-suc-set, take-at, drop-at}
 use lib.Dec.{leb, ltb, eqb}
 use borrow.Author.Tests.{leb-true, leb-false, ltb-false, ne-eqb}
-use Rattle.octets.specs.Limits.{maxName, maxCommunities}
-use Rattle.octets.specs.Lists.{anyOf, keep}
+use Rattle.octets.specs.Limits.{maxNameOctets, maxCommunities}
+use Rattle.octets.specs.Lists.{anyOf, filter}
 use Rattle.octets.specs.Octets.{octet, member}
 use Rattle.octets.proofs.Lists.{by-test, neither, keep-in, keep-out}
 use Rattle.der.specs.declared.Element.{Element}
@@ -21,7 +21,7 @@ use Rattle.protocol.specs.Community.{afterRemovals}
 use Rattle.protocol.proofs.Lists.{keep-append}
 use Rattle.apply.specs.declared.Grown.{Grown}
 use Rattle.apply.specs.declared.Grown.the-variants.{To, Full}
-use Rattle.apply.specs.Names.{oidsFrom, Section, Joins, Joinable, Grows, fresh, Addable, AddsName, AddableAll, AddsAll}
+use Rattle.apply.specs.Names.{oidsFrom, Section, Joins, Joinable, Grows, notKept, Addable, AddsName, AddableAll, AddsAll}
 use Rattle.apply.proofs.Oids.{oids-end, oids-turn}
 use Rattle.apply.proofs.Sections.{section-count}
 
@@ -46,19 +46,19 @@ no-oids s stop start =
     let e = oids-turn s stop start (leb-false stop start t) {e = elementAt s start stop} refl refl in
     t ∙ sym (ne-eqb (length (oidsFrom s stop start)) 0 (λ z. absurd (omega (arith, ap length e)))))
 
-module _ (s : List ℕ) (e : Element) (l : List (List ℕ)) {b : Bool} (c : b ≡ e .good && leb (e .stop) (e .start)) where
+module _ (s : List ℕ) (e : Element) (l : List (List ℕ)) {b : Bool} (c : b ≡ e .valid && leb (e .stop) (e .start)) where
   abbrev removals : List (List ℕ)
   removals = oidsFrom s (e .stop) (e .start)
 
-  test : e .good && eqb (length removals) 0 ≡ b
-  test = ap (λ (v : Bool). e .good && v) (sym (no-oids s (e .stop) (e .start))) ∙ sym c
+  test : e .valid && eqb (length removals) 0 ≡ b
+  test = ap (λ (v : Bool). e .valid && v) (sym (no-oids s (e .stop) (e .start))) ∙ sym c
 
-  pub removals-clear : b ≡ true → (d : List ℕ) → 529 ≤ length d → Section (set d 0 0) 1 (afterRemovals (e .good) removals l)
+  pub removals-clear : b ≡ true → (d : List ℕ) → 529 ≤ length d → Section (set d 0 0) 1 (afterRemovals (e .valid) removals l)
   unfolding afterRemovals
   removals-clear t d h = rw (test ∙ t, afterRemovals) (section-start d h)
 
-  pub removals-keep : b ≡ false → {d : List ℕ} {len : ℕ} → Section d len (keep (λ c. not (member c removals)) l)
-      → Section d len (afterRemovals (e .good) removals l)
+  pub removals-keep : b ≡ false → {d : List ℕ} {len : ℕ} → Section d len (filter (λ c. not (member c removals)) l)
+      → Section d len (afterRemovals (e .valid) removals l)
   unfolding afterRemovals
   removals-keep t s = rw (test ∙ t, afterRemovals) s
 
@@ -88,13 +88,13 @@ module _ {d : List ℕ} {len k : ℕ} (name : List ℕ) (w : Addable d len k nam
       ap (member name) (sym e) ∙ sym m
 
   pub add-present : b ≡ true → AddsName d len k name (To len) d
-  unfolding keep
+  unfolding filter
   add-present t =
       record {
         same-room = refl;
         few = held;
         adds = λ kept added s c.
-            let e : added ++ fresh kept (name ∷ []) ≡ added =
+            let e : added ++ notKept kept (name ∷ []) ≡ added =
             ap (λ (r : List (List ℕ)). added ++ r) (keep-out (λ x. not (member x kept)) name [] (ap not (among kept added s c ∙ t))) ∙ append-nil added
             in
             rw e s;
@@ -102,8 +102,8 @@ module _ {d : List ℕ} {len k : ℕ} (name : List ℕ) (w : Addable d len k nam
 
   module _ (t : b ≡ false) where
     one-more : (kept added : List (List ℕ)) → Section d len (kept ++ added) → length kept ≡ k
-        → kept ++ (added ++ fresh kept (name ∷ [])) ≡ (kept ++ added) ++ (name ∷ [])
-    unfolding keep
+        → kept ++ (added ++ notKept kept (name ∷ [])) ≡ (kept ++ added) ++ (name ∷ [])
+    unfolding filter
     one-more kept added s c =
         ap (λ (r : List (List ℕ)). kept ++ (added ++ r)) (keep-in (λ x. not (member x kept)) name [] (ap not (among kept added s c ∙ t)))
         ∙ sym (append-assoc kept added (name ∷ []))
@@ -137,25 +137,25 @@ module _ (s : List ℕ) (stop start k : ℕ) (d₀ : List ℕ) (len : ℕ) where
   pub record Added (kept : List (List ℕ)) (d : List ℕ) (i end : ℕ) : Type 0 where
     pub added : List (List ℕ)
     pub section : Section d end (kept ++ added)
-    pub rest : added ++ fresh kept (oidsFrom s stop i) ≡ fresh kept (oidsFrom s stop start)
+    pub rest : added ++ notKept kept (oidsFrom s stop i) ≡ notKept kept (oidsFrom s stop start)
 
   pub record Joining (d : List ℕ) (i end : ℕ) : Type 0 where
     pub same-room : length d ≡ length d₀
     pub count : octet d₀ 0 ≡ k
     pub few : octet d 0 ≤ maxCommunities
-    pub small : anyOf (λ c. ltb maxName (length c)) (oidsFrom s stop i) ≡ false
+    pub small : anyOf (λ c. ltb maxNameOctets (length c)) (oidsFrom s stop i) ≡ false
     pub so-far : (kept : List (List ℕ)) → Section d₀ len kept → Added kept d i end
 
   module _ {d : List ℕ} {i end : ℕ} (w : Joining d i end) where
     pub joining-end : stop ≤ i → AddsAll (oidsFrom s stop start) d₀ len (To end) d
-    unfolding keep
+    unfolding filter
     joining-end h =
         record {
           same-room = w .same-room;
           few = w .few;
           adds = λ kept v.
               let a = w .so-far kept v in
-              let e : a .added ≡ fresh kept (oidsFrom s stop start) = sym (append-nil (a .added)) ∙ (rw (oids-end s stop i h) at (a .rest)) in
+              let e : a .added ≡ notKept kept (oidsFrom s stop start) = sym (append-nil (a .added)) ∙ (rw (oids-end s stop i h) at (a .rest)) in
               rw (← e) (a .section);
         }
 
@@ -163,7 +163,7 @@ module _ (s : List ℕ) (stop start k : ℕ) (d₀ : List ℕ) (len : ℕ) where
       turn : oidsFrom s stop i ≡ name ∷ oidsFrom s stop (nextAt e stop)
       turn = oids-turn s stop i more q refl ∙ ap (λ (v : List ℕ). v ∷ oidsFrom s stop (nextAt e stop)) (sym c)
 
-      smalls : (ltb maxName (length name) ≡ false) × (anyOf (λ c. ltb maxName (length c)) (oidsFrom s stop (nextAt e stop)) ≡ false)
+      smalls : (ltb maxNameOctets (length name) ≡ false) × (anyOf (λ c. ltb maxNameOctets (length c)) (oidsFrom s stop (nextAt e stop)) ≡ false)
       unfolding anyOf
       smalls = neither _ _ (rw turn at (w .small))
 
@@ -180,14 +180,14 @@ module _ (s : List ℕ) (stop start k : ℕ) (d₀ : List ℕ) (len : ℕ) where
           }
 
       -- all that is left, with the next one first
-      left : (kept added : List (List ℕ)) → added ++ fresh kept (oidsFrom s stop i) ≡ (added ++ fresh kept (name ∷ [])) ++ fresh kept (oidsFrom s stop (nextAt e stop))
+      left : (kept added : List (List ℕ)) → added ++ notKept kept (oidsFrom s stop i) ≡ (added ++ notKept kept (name ∷ [])) ++ notKept kept (oidsFrom s stop (nextAt e stop))
       left kept added =
-          ap (λ (l : List (List ℕ)). added ++ fresh kept l) turn
+          ap (λ (l : List (List ℕ)). added ++ notKept kept l) turn
           ∙ ap (λ (l : List (List ℕ)). added ++ l) (keep-append (λ x. not (member x kept)) (name ∷ []) (oidsFrom s stop (nextAt e stop)))
-          ∙ sym (append-assoc added (fresh kept (name ∷ [])) (fresh kept (oidsFrom s stop (nextAt e stop))))
+          ∙ sym (append-assoc added (notKept kept (name ∷ [])) (notKept kept (oidsFrom s stop (nextAt e stop))))
 
       module _ {r : Grown} {d′ : List ℕ} (one : AddsName d end k name r d′) where
-        grown : (kept : List (List ℕ)) (v : Section d₀ len kept) → Grows kept (w .so-far kept v .added ++ fresh kept (name ∷ [])) r d′
+        grown : (kept : List (List ℕ)) (v : Section d₀ len kept) → Grows kept (w .so-far kept v .added ++ notKept kept (name ∷ [])) r d′
         grown kept v = let a = w .so-far kept v in one .adds kept (a .added) (a .section) (sym (section-count v) ∙ w .count)
 
         pub joining-full : r ≡ Full → AddsAll (oidsFrom s stop start) d₀ len Full d′
@@ -197,16 +197,16 @@ module _ (s : List ℕ) (stop start k : ℕ) (d₀ : List ℕ) (len : ℕ) where
               few = one .few;
               adds = λ kept v.
                   let a = w .so-far kept v in
-                  let g : maxCommunities < length (kept ++ (a .added ++ fresh kept (name ∷ []))) = rw f at (grown kept v) in
-                  let rest = fresh kept (oidsFrom s stop (nextAt e stop)) in
+                  let g : maxCommunities < length (kept ++ (a .added ++ notKept kept (name ∷ []))) = rw f at (grown kept v) in
+                  let rest = notKept kept (oidsFrom s stop (nextAt e stop)) in
                   let t = ap length (sym (left kept (a .added)) ∙ a .rest) in
                   omega (
                     arith,
                     g,
                     t,
-                    length-append kept (a .added ++ fresh kept (name ∷ [])),
-                    length-append (a .added ++ fresh kept (name ∷ [])) rest,
-                    length-append kept (fresh kept (oidsFrom s stop start)),
+                    length-append kept (a .added ++ notKept kept (name ∷ [])),
+                    length-append (a .added ++ notKept kept (name ∷ [])) rest,
+                    length-append kept (notKept kept (oidsFrom s stop start)),
                   );
             }
 
@@ -220,7 +220,7 @@ module _ (s : List ℕ) (stop start k : ℕ) (d₀ : List ℕ) (len : ℕ) where
               so-far = λ kept v.
                   let a = w .so-far kept v in
                   record {
-                    added = a .added ++ fresh kept (name ∷ []);
+                    added = a .added ++ notKept kept (name ∷ []);
                     section = rw f at (grown kept v);
                     rest = rw j (sym (left kept (a .added)) ∙ a .rest);
                   };

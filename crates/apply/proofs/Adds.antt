@@ -14,7 +14,7 @@ use Rattle.octets.specs.Octets.{same}
 use Rattle.rights.specs.Rights.{Rights}
 use Rattle.rights.specs.Decision.{within}
 use Rattle.anchor.specs.Info.{publicKey, rightsOf}
-use Rattle.anchor.specs.Judge.{judge, statusOf as judgedStatus, passes}
+use Rattle.anchor.specs.Judge.{judge, checkStatus as judgedStatus, passes}
 use Rattle.store.specs.declared.Position.{Position}
 use Rattle.store.specs.declared.Position.the-variants.{At, Nothing}
 use Rattle.store.specs.declared.Sought.the-variants.{PublicKey}
@@ -26,7 +26,7 @@ use Rattle.store.proofs.Formats.{rules, from-rules}
 use Rattle.store.proofs.Parts.{isAt, first-any}
 use Rattle.store.specs.Steps.{withOthers, oneMore}
 use Rattle.protocol.specs.Update.{Step, unnumbered, unchanged, added, hasKey}
-use Rattle.protocol.proofs.WellFormed.{GoodAnchors, good-added}
+use Rattle.protocol.proofs.WellFormed.{ValidAnchors, valid-added}
 use Rattle.apply.specs.declared.Applied.the-variants.{Done, Failed}
 use Rattle.apply.specs.Scratch.{Holds, Scratch, HoldsBoth, infoAt}
 use Rattle.apply.specs.Edits.{Growable, Appends}
@@ -35,8 +35,8 @@ use Rattle.apply.proofs.Held.{search-is, info-is, counted}
 use Rattle.apply.proofs.Found.{first-at}
 use Rattle.apply.proofs.Stored.{octets-nowhere, octets-once}
 
--- other anchors behind the apex, of which the rules for anchors hold
-pub with-anchors : (σ : Store) (l : List Anchor) → wellFormed σ ≡ true → GoodAnchors (σ .apex ∷ l) → wellFormed (withOthers l σ) ≡ true
+-- other anchors after the apex, of which the rules for anchors hold
+pub with-anchors : (σ : Store) (l : List Anchor) → wellFormed σ ≡ true → ValidAnchors (σ .apex ∷ l) → wellFormed (withOthers l σ) ≡ true
 with-anchors σ l g a =
     let p = rules σ g in
     from-rules (withOthers l σ)
@@ -52,8 +52,8 @@ with-anchors σ l g a =
       communities = p .communities;
     })
 
-pub good-anchors : (σ : Store) → wellFormed σ ≡ true → GoodAnchors (anchors σ)
-good-anchors σ g =
+pub valid-anchors : (σ : Store) → wellFormed σ ≡ true → ValidAnchors (anchors σ)
+valid-anchors σ g =
     let p = rules σ g in
     record { count = p .anchor-count; each = p .each-anchor; keys = p .keys }
 
@@ -110,8 +110,8 @@ module _ (rights : Rights) (t : List ℕ) where
             octets-stored σ h =
                 let (k, y, f) = first-at (hasKey (publicKey t)) 0 j (anchors σ) (found-in σ h ∙ there) in
                 let l : j ≡ length (f .before) = omega (arith, y, f .place) in
-                let here : s ≡ f .here .info = info ∙ ap (infoAt (take len d)) l ∙ info-is σ d len h (f .before) (f .behind) (f .here) (f .parts) in
-                octets-once t (anchors σ) f (good-anchors σ (h .good) .keys)
+                let here : s ≡ f .here .info = info ∙ ap (infoAt (take len d)) l ∙ info-is σ d len h (f .before) (f .after) (f .here) (f .parts) in
+                octets-once t (anchors σ) f (valid-anchors σ (h .valid) .keys)
                 ∙ ap (λ (o : List ℕ). same o t) (sym here)
                 ∙ sym equal
 
@@ -162,8 +162,8 @@ module _ (rights : Rights) (t : List ℕ) where
 
               fits : (σ : Store) (old new : List Anchor) → Holds (withOthers (old ++ new) σ) d len → wellFormed (oneMore t (withOthers (old ++ new) σ)) ≡ true
               fits σ old new h =
-                  let g = good-added rights (σ .apex) old new t conforming (good-anchors (withOthers (old ++ new) σ) (h .good)) in
-                  with-anchors (withOthers (old ++ new) σ) ((old ++ new) ++ (unnumbered t ∷ [])) (h .good)
+                  let g = valid-added rights (σ .apex) old new t conforming (valid-anchors (withOthers (old ++ new) σ) (h .valid)) in
+                  with-anchors (withOthers (old ++ new) σ) ((old ++ new) ++ (unnumbered t ∷ [])) (h .valid)
                   (rw (append-assoc old new (unnumbered t ∷ [])) (rw (appended σ old new h) at g))
 
               -- an anchor more has room

@@ -76,14 +76,14 @@ module _ (s : List ℕ) (rights : Rights) (stop : ℕ) (d₀ : List ℕ) (len : 
         record { room = omega (arith, c .room, w .room); store = c .store; old = p .old; new = p .new; holds = p .holds }
 
     module _ (more : at < stop) {e : Element} (q : e ≡ elementAt s at stop) where
-      abbrev behind : List Element
-      behind = elements s (nextAt e stop) stop
+      abbrev after : List Element
+      after = elements s (nextAt e stop) stop
 
-      turned : elements s at stop ≡ e ∷ behind
+      turned : elements s at stop ≡ e ∷ after
       turned = run-turn s at stop q more refl
 
       pub entering-adds : Adding s (entryOf s e)
-      entering-adds = let a : Every (asked.Adding s) (entryOf s e ∷ map (entryOf s) behind) = rw turned at (w .adds) in adding s (entryOf s e) (a .0)
+      entering-adds = let a : Every (asked.Adding s) (entryOf s e ∷ map (entryOf s) after) = rw turned at (w .adds) in adding s (entryOf s e) (a .0)
 
       pub entering-few : n < maxUpdates
       entering-few = omega (arith, w .few, ap length turned)

@@ -1,35 +1,32 @@
 -- 01, After acceptance, Update: an entry by its cases.
-use Prim.Native.Nat.{ℕ, _<_}
+use Prim.Native.Nat.{ℕ}
 use mathlib.Core.List.{List, _++_}
 use mathlib.Core.Path.{_≡_, sym, ap, _∙_}
-use lib.Dec.{lit<}
 use Rattle.octets.specs.declared.Status.{Status}
 use Rattle.octets.specs.Status.{unsupportedTrustAnchorFormat, improperTAChange}
 use Rattle.der.specs.declared.Element.{Element}
-use Rattle.der.specs.Element.{whole}
+use Rattle.der.specs.Element.{encoding}
 use Rattle.rights.specs.Rights.{Rights}
-use Rattle.anchor.specs.declared.Judged.{Judged}
-use Rattle.anchor.specs.declared.Judged.the-variants as judged
-use Rattle.anchor.specs.Judge.{judge, statusOf as judgedStatus}
-use Rattle.store.specs.Store.{Anchor}
+use Rattle.anchor.specs.declared.AnchorCheck.{AnchorCheck}
+use Rattle.anchor.specs.declared.AnchorCheck.the-variants as judged
+use Rattle.anchor.specs.Judge.{checkStatus as judgedStatus}
 use Rattle.store.specs.Steps.{withOthers}
 use Rattle.message.specs.declared.Entry.{Entry}
 use Rattle.message.specs.declared.Entry.the-variants as entry
 use Rattle.message.specs.Fields.{keyIn}
-use Rattle.protocol.specs.Update.{Step, added, removed, step}
-use Rattle.protocol.proofs.Lists.{by-given}
+use Rattle.protocol.specs.Update.{added, removed, step}
 use Rattle.apply.specs.declared.Applied.{Applied}
 use Rattle.apply.specs.declared.Applied.the-variants.{Done, Failed}
 use Rattle.apply.specs.Scratch.{Scratch, ScratchBoth}
-use Rattle.apply.specs.Entry.{statusOf, Applies, Enters, Conforming, Adding, untagged}
+use Rattle.apply.specs.Entry.{appliedStatus, Applies, Enters, Conforming, Adding, untagged}
 use Rattle.apply.proofs.Adds.{unmoved}
 
 module _ (s : List ℕ) where
-  pub adding-conforms : {x : Entry} {e : Element} {t : List ℕ} → Adding s x → x ≡ entry.Add e → t ≡ whole s e → Conforming t
+  pub adding-conforms : {x : Entry} {e : Element} {t : List ℕ} → Adding s x → x ≡ entry.Add e → t ≡ encoding s e → Conforming t
   adding-conforms a q w = rw w (rw q at a)
 
   module _ (rights : Rights) {d : List ℕ} {len k : ℕ} {x : Entry} where
-    pub step-add : {e : Element} {t : List ℕ} {r : Applied} {d′ : List ℕ} → x ≡ entry.Add e → t ≡ whole s e
+    pub step-add : {e : Element} {t : List ℕ} {r : Applied} {d′ : List ℕ} → x ≡ entry.Add e → t ≡ encoding s e
         → Applies (λ apex old new. added rights apex old new t) d len k r d′ → Applies (λ apex old new. step s rights apex old new x) d len k r d′
     unfolding step
     step-add q w h = rw q (rw w at h)
@@ -38,7 +35,7 @@ module _ (s : List ℕ) where
     unfolding step judgedStatus
     step-certificate q = unmoved (λ apex old new. step s rights apex old new x) (λ σ old new h. rw q)
 
-    pub step-remove : {e : Element} {t : List ℕ} {r : Applied} {d′ : List ℕ} → x ≡ entry.Remove e → t ≡ whole s e
+    pub step-remove : {e : Element} {t : List ℕ} {r : Applied} {d′ : List ℕ} → x ≡ entry.Remove e → t ≡ encoding s e
         → Applies (λ apex old new. removed rights apex old new (untagged t)) d len k r d′ → Applies (λ apex old new. step s rights apex old new x) d len k r d′
     unfolding step keyIn
     step-remove q w h = rw q (rw w at h)
@@ -53,7 +50,7 @@ scratch-of w = record { room = w .room; store = withOthers (w .old ++ w .new) (w
 -- what an entry comes to, by its answer
 module _ (s : List ℕ) (rights : Rights) (d : List ℕ) (len k : ℕ) {x y : Entry} {r : Applied} {d′ : List ℕ} (q : x ≡ y)
     (a : Applies (λ apex old new. step s rights apex old new x) d len k r d′) where
-  pub enter-failed : {status : Status} {code : ℕ} → r ≡ Failed status → code ≡ statusOf r .number
+  pub enter-failed : {status : Status} {code : ℕ} → r ≡ Failed status → code ≡ appliedStatus r .number
       → Enters (λ apex old new. step s rights apex old new y) d len k (record { code = code; len = len; old = k }) d′
   enter-failed e c =
       record {
@@ -71,5 +68,5 @@ module _ (s : List ℕ) (rights : Rights) (d : List ℕ) (len k : ℕ) {x y : En
         does = λ σ old new h.
             let l = a .does σ old new h in
             rw (← q)
-            (record { code = ap (λ (v : Status). v .number) (sym (ap statusOf e) ∙ l .status); after = rw e at (l .after) });
+            (record { code = ap (λ (v : Status). v .number) (sym (ap appliedStatus e) ∙ l .status); after = rw e at (l .after) });
       }

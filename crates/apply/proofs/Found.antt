@@ -5,7 +5,7 @@ use mathlib.Core.Bool.{Bool, true, false, not, _&&_, _||_}
 use mathlib.Core.List.{List, [], _∷_, _++_, map}
 use mathlib.Core.Path.{_≡_, refl, sym, ap, ap₂, _∙_}
 use lib.ListN.{length}
-use Rattle.octets.specs.Lists.{anyOf, keep}
+use Rattle.octets.specs.Lists.{anyOf, filter}
 use Rattle.octets.proofs.Lists.{by-test, neither, keep-in, keep-out}
 use Rattle.store.specs.declared.Position.the-variants.{At, Nothing}
 use Rattle.store.specs.Parts.{firstFrom}
@@ -30,8 +30,8 @@ nothing-at j e = let z : _≡_ {A = ℕ} 0 1 = cc in absurd (omega arith)
 pub record First {A : Type 0} (p : A → Bool) (l : List A) (k : ℕ) : Type 0 where
   pub before : List A
   pub here : A
-  pub behind : List A
-  pub parts : l ≡ before ++ (here ∷ behind)
+  pub after : List A
+  pub parts : l ≡ before ++ (here ∷ after)
   pub place : length before ≡ k
   pub passes : p here ≡ true
   pub fails : anyOf p before ≡ false
@@ -48,7 +48,7 @@ module _ {A : Type 0} (p : A → Bool) where
         record {
           before = [];
           here = x;
-          behind = l;
+          after = l;
           parts = refl;
           place = refl;
           passes = t;
@@ -62,7 +62,7 @@ module _ {A : Type 0} (p : A → Bool) where
         record {
           before = x ∷ f .before;
           here = f .here;
-          behind = f .behind;
+          after = f .after;
           parts = ap (λ (r : List A). x ∷ r) (f .parts);
           place = ap suc (f .place);
           passes = f .passes;
@@ -99,8 +99,8 @@ module _ {A : Type 0} (p : A → Bool) where
       let h = neither (p b) (anyOf p l) e in
       rw (h .0) (any-less q l (h .1))
 
-  pub keep-all : (l : List A) → anyOf p l ≡ false → keep (λ b. not (p b)) l ≡ l
-  unfolding keep anyOf
+  pub keep-all : (l : List A) → anyOf p l ≡ false → filter (λ b. not (p b)) l ≡ l
+  unfolding filter anyOf
   keep-all [] e = refl
   keep-all (b ∷ l) e =
       let h = neither (p b) (anyOf p l) e in
@@ -124,19 +124,19 @@ module _ {A : Type 0} (p : A → Bool) where
         or-false true = refl
         or-false false = refl
 
-    pub keep-rest : keep (λ b. not (p b)) (x ++ (a ∷ y)) ≡ x ++ y
+    pub keep-rest : filter (λ b. not (p b)) (x ++ (a ∷ y)) ≡ x ++ y
     keep-rest =
         keep-append (λ b. not (p b)) x (a ∷ y)
         ∙ ap₂ _++_ (keep-all x ex) (keep-out (λ b. not (p b)) a y (ap not t) ∙ keep-all y ey)
 
   -- how many are kept of the front of such a list
   pub kept-front : (x y : List A) (a : A) (old new : List A) → p a ≡ true → anyOf p x ≡ false → anyOf p y ≡ false → old ++ new ≡ x ++ (a ∷ y)
-      → (length x < length old → length (keep (λ b. not (p b)) old) + 1 ≡ length old) × (length old ≤ length x → length (keep (λ b. not (p b)) old) ≡ length old)
-  unfolding keep anyOf
+      → (length x < length old → length (filter (λ b. not (p b)) old) + 1 ≡ length old) × (length old ≤ length x → length (filter (λ b. not (p b)) old) ≡ length old)
+  unfolding filter anyOf
   kept-front x y a [] new t ex ey e = (λ h. absurd (omega arith), λ h. refl)
   kept-front [] y a (b ∷ old) new t ex ey e =
       let s : (b ≡ a) × (old ++ new ≡ y) = (cc, cc) in
-      let k : keep (λ b. not (p b)) (b ∷ old) ≡ old =
+      let k : filter (λ b. not (p b)) (b ∷ old) ≡ old =
       keep-out (λ b. not (p b)) b old (ap not (ap p (s .0) ∙ t)) ∙ keep-all old (any-front old new (ap (anyOf p) (s .1) ∙ ey))
       in
       (λ h. omega (arith, ap length k), λ h. absurd (omega arith))

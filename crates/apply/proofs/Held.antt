@@ -26,7 +26,7 @@ use Rattle.edit.specs.Edits.{recounted}
 use Rattle.edit.proofs.Replaced.{take-all-placed}
 use Rattle.edit.proofs.Stores.{append-law, remove-law}
 use Rattle.apply.specs.Scratch.{Holds}
-use Rattle.apply.specs.Edits.{Growable, Appends, Cuttable, Cuts}
+use Rattle.apply.specs.Edits.{Growable, Appends, CanRemove, RemovesAnchor}
 use Rattle.apply.proofs.Found.{first-map}
 
 module _ (σ : Store) (d : List ℕ) (len : ℕ) (h : Holds σ d len) where
@@ -38,46 +38,46 @@ module _ (σ : Store) (d : List ℕ) (len : ℕ) (h : Holds σ d len) where
   count-place = let e = ap anchorPlace (h .image) ∙ anchor-place σ in omega arith
 
   pub counted : anchorCount (take len d) ≡ length (anchors σ)
-  counted = ap anchorCount (h .image) ∙ count-of-anchors (encode σ) σ (decode-encode σ (h .good))
+  counted = ap anchorCount (h .image) ∙ count-of-anchors (encode σ) σ (decode-encode σ (h .valid))
 
   pub few : {items : ℕ} → items ≡ anchorCount (take len d) → (1 ≤ items) × (items ≤ 32)
-  few e = let n = rules σ (h .good) .anchor-count in (omega (arith, counted), omega (arith, counted))
+  few e = let n = rules σ (h .valid) .anchor-count in (omega (arith, counted), omega (arith, counted))
 
   -- a search in the image is the search in its store
   pub search-is : (by : Sought) (wanted : List ℕ) {p : Position} → p ≡ firstFrom 0 (isSought by wanted) (map infoIn (recordsOf (take len d)))
       → firstFrom 0 (λ a. isSought by wanted (a .info)) (anchors σ) ≡ p
   search-is by wanted f =
-      let infos = ap (λ (s : List ℕ). map infoIn (recordsOf s)) (h .image) ∙ of-anchors (λ a. a .info) (encode σ) σ (decode-encode σ (h .good)) in
+      let infos = ap (λ (s : List ℕ). map infoIn (recordsOf s)) (h .image) ∙ of-anchors (λ a. a .info) (encode σ) σ (decode-encode σ (h .valid)) in
       sym (first-map (λ a. a .info) (isSought by wanted) 0 (anchors σ))
       ∙ ap (firstFrom 0 (isSought by wanted)) (sym infos)
       ∙ sym f
 
   -- where the communities' count stands
   pub end-is : communityPlace (take len d) ≡ upTo σ (anchors σ)
-  end-is = ap communityPlace (h .image) ∙ community-place σ (h .good)
+  end-is = ap communityPlace (h .image) ∙ community-place σ (h .valid)
 
   pub end-before : upTo σ (anchors σ) < len
   end-before = omega (arith, size, image-length σ (anchors σ) [] (sym (append-nil (anchors σ))))
 
   pub place-is : (x y : List Anchor) → anchors σ ≡ x ++ y → placeOf (take len d) (length x) ≡ upTo σ x
-  place-is x y e = ap (λ (s : List ℕ). placeOf s (length x)) (h .image) ∙ standing.place-is σ (h .good) x y e
+  place-is x y e = ap (λ (s : List ℕ). placeOf s (length x)) (h .image) ∙ standing.place-is σ (h .valid) x y e
 
   module _ (x y : List Anchor) (a : Anchor) (e : anchors σ ≡ x ++ (a ∷ y)) where
     pub info-is : infoAt (take len d) (length x) ≡ a .info
-    info-is = ap (λ (s : List ℕ). infoAt s (length x)) (h .image) ∙ info-at σ (h .good) x y a e
+    info-is = ap (λ (s : List ℕ). infoAt s (length x)) (h .image) ∙ info-at σ (h .valid) x y a e
 
     pub record-end-is : recordEnd (take len d) (upTo σ x) ≡ upTo σ x + (11 + length (a .info))
-    record-end-is = ap (λ (s : List ℕ). recordEnd s (upTo σ x)) (h .image) ∙ record-end σ (h .good) x y a e
+    record-end-is = ap (λ (s : List ℕ). recordEnd s (upTo σ x)) (h .image) ∙ record-end σ (h .valid) x y a e
 
     pub inside-is : upTo σ x + (11 + length (a .info)) < len
-    inside-is = omega (arith, size, record-inside σ (h .good) x y a e)
+    inside-is = omega (arith, size, record-inside σ (h .valid) x y a e)
 
 -- a store that an edit has written
 pub written : {τ : Store} (d : List ℕ) {d′ : List ℕ} (s : List ℕ) {r : ℕ} → s ≡ encode τ → wellFormed τ ≡ true → length s ≤ length d → r ≡ length s → d′ ≡ placed d 0 s
     → (length d′ ≡ length d) × Holds τ d′ r
 written {τ} d {d′} s {r} e g l n f =
     let k = ap length f ∙ length-placed d 0 s (omega arith) in
-    (k, record { image = ap₂ take n f ∙ take-all-placed d s l ∙ e; inside = omega arith; good = g })
+    (k, record { image = ap₂ take n f ∙ take-all-placed d s l ∙ e; inside = omega arith; valid = g })
 
 -- an anchor more
 
@@ -119,7 +119,7 @@ module _ {d : List ℕ} {len : ℕ} {t : List ℕ} (w : Growable d len t) {count
             ap₂ (λ (a b : ℕ). recounted (take len d) a (b + 1) end 0 (head ++ t)) p n
             ∙ ap₂ (λ (a : ℕ) (b : List ℕ). recounted (take len d) (anchorPlace (take len d)) (anchorCount (take len d) + 1) a 0 b) q (new-record t e)
             ∙ ap (λ (b : List ℕ). recounted b (anchorPlace b) (anchorCount b + 1) (communityPlace b) 0 (encodeAnchor (unnumbered t))) (h .image)
-            ∙ append-law σ (h .good) t
+            ∙ append-law σ (h .valid) t
             in
             let fits : length s ≤ length d = omega (arith, ap length i, encode-length (oneMore t σ) g, w .room) in
             written d s i g fits (f .0) (f .1) .1;
@@ -127,7 +127,7 @@ module _ {d : List ℕ} {len : ℕ} {t : List ℕ} (w : Growable d len t) {count
 
 -- an anchor less
 
-module _ {d : List ℕ} {len position : ℕ} (w : Cuttable d len position) {count items at end : ℕ} (p : count ≡ anchorPlace (take len d))
+module _ {d : List ℕ} {len position : ℕ} (w : CanRemove d len position) {count items at end : ℕ} (p : count ≡ anchorPlace (take len d))
     (n : items ≡ anchorCount (take len d)) (q : at ≡ placeOf (take len d) position) (m : end ≡ recordEnd (take len d) at) where
   -- where the record stands, and where it ends
   cut-at : (σ : Store) (x y : List Anchor) (a : Anchor) → Holds σ d len → anchors σ ≡ x ++ (a ∷ y) → length x ≡ position
@@ -158,7 +158,7 @@ module _ {d : List ℕ} {len position : ℕ} (w : Cuttable d len position) {coun
   pub cut-done : {r : ℕ} {d′ : List ℕ}
       → (r ≡ length (recounted (take len d) count (items - 1) at (end - at) [])) × (d′ ≡ placed d 0 (recounted (take len d) count (items - 1) at (end - at) []))
       → length d′ ≡ length d
-      → Cuts d len position r d′
+      → RemovesAnchor d len position r d′
   unfolding flatMap
   cut-done {r} {d′} f l =
       let s = recounted (take len d) count (items - 1) at (end - at) [] in
@@ -174,7 +174,7 @@ module _ {d : List ℕ} {len position : ℕ} (w : Cuttable d len position) {coun
             ∙ ap there (h .image)
             ∙ ap (λ (o : ℕ). recounted (encode σ) (anchorPlace (encode σ)) (anchorCount (encode σ) - 1) o (recordEnd (encode σ) o - o) [])
             (ap (placeOf (encode σ)) (sym k))
-            ∙ remove-law σ (h .good) x y a e
+            ∙ remove-law σ (h .valid) x y a e
             in
             let fits : length s ≤ length d = omega (arith, ap length i, image-length σ (σ .apex ∷ x) (a ∷ y) (ap (λ (r : List Anchor). σ .apex ∷ r) e), image-length (withOthers (x ++ y) σ) (σ .apex ∷ x) y refl, length-append (encodeAnchor a) (flatMap encodeAnchor y), size σ d len h, h .inside) in
             written d s i g fits (f .0) (f .1) .1;

@@ -18,42 +18,42 @@ use Rattle.store.proofs.Sizes.{length-encodeNumber}
 use Rattle.store.specs.Steps.{withOthers}
 use Rattle.store.proofs.Standing.{upTo, next-place, place-is, info-here}
 use Rattle.edit.proofs.Replaced.{take-placed}
-use Rattle.protocol.specs.Update.{numbered, stamped}
+use Rattle.protocol.specs.Update.{numbered, withSeqNumber}
 use Rattle.protocol.specs.Effect.{numberSet, withNumber}
-use Rattle.protocol.proofs.WellFormed.{Good, good-withNumber}
+use Rattle.protocol.proofs.WellFormed.{Good, valid-withNumber}
 use Rattle.apply.specs.Scratch.{Holds, HoldsBoth, ScratchBoth}
-use Rattle.apply.specs.Edits.{Stampable, Stamps, Renumbers}
+use Rattle.apply.specs.Edits.{CanNumber, NumbersAt, Renumbers}
 use Rattle.apply.proofs.Edits.{numberSet-at, set-number-law}
 use Rattle.apply.proofs.Held.{counted, record-end-is, inside-is}
 use Rattle.apply.proofs.Held as held
-use Rattle.apply.proofs.Adds.{with-anchors, good-anchors}
+use Rattle.apply.proofs.Adds.{with-anchors, valid-anchors}
 
-good-of : (σ : Store) → wellFormed σ ≡ true → Good σ
-good-of σ g =
+valid-of : (σ : Store) → wellFormed σ ≡ true → Good σ
+valid-of σ g =
     let p = rules σ g in
     record {
       of-device = both (both (p .hwType) (p .hwType-oid)) (p .serial);
-      of-anchors = good-anchors σ g;
+      of-anchors = valid-anchors σ g;
       of-communities = record { count = p .community-count; each = p .each-community; apart = p .communities };
     }
 
-numbered-good : (σ : Store) (x y : List Anchor) (a : Anchor) (n : ℕ) → σ .others ≡ x ++ (a ∷ y) → n ≤ maxNumber → wellFormed σ ≡ true
+numbered-valid : (σ : Store) (x y : List Anchor) (a : Anchor) (n : ℕ) → σ .others ≡ x ++ (a ∷ y) → n ≤ maxNumber → wellFormed σ ≡ true
     → wellFormed (withOthers (x ++ (numbered n a ∷ y)) σ) ≡ true
 unfolding withNumber
-numbered-good σ x y a n e b g =
-    let w = good-withNumber (suc (length x)) n σ b (good-of σ g) .of-anchors in
+numbered-valid σ x y a n e b g =
+    let w = valid-withNumber (suc (length x)) n σ b (valid-of σ g) .of-anchors in
     with-anchors σ (x ++ (numbered n a ∷ y)) g (rw (e, numberSet-at n x y a) at w)
 
 -- one anchor
 
-module _ {d : List ℕ} {len p n : ℕ} (w : Stampable d len p n) where
+module _ {d : List ℕ} {len p n : ℕ} (w : CanNumber d len p n) where
   pub stamp-inside : p + 9 ≤ len
   stamp-inside =
       let σ = w .store in
       let x = σ .apex ∷ w .before in
       let all = ap (λ (l : List Anchor). σ .apex ∷ l) (w .parts) in
-      let i = inside-is σ d len (w .holds) x (w .behind) (w .anchor) all in
-      let q = w .place ∙ place-is σ (w .holds .good) x (w .anchor ∷ w .behind) all in
+      let i = inside-is σ d len (w .holds) x (w .after) (w .anchor) all in
+      let q = w .place ∙ place-is σ (w .holds .valid) x (w .anchor ∷ w .after) all in
       omega (arith, w .holds .inside)
 
   module _ {found : List ℕ} (f : found ≡ identifierIn (recordAt (take len d) p)) (id : List ℕ) {b : Bool} (s : b ≡ same found id) where
@@ -62,23 +62,23 @@ module _ {d : List ℕ} {len p n : ℕ} (w : Stampable d len p n) where
     identified σ x y a h e q =
         let all = ap (λ (l : List Anchor). σ .apex ∷ l) e in
         let i : infoIn (recordAt (take len d) p) ≡ a .info =
-        ap₂ (λ (j : ℕ) (r : List ℕ). infoIn (recordAt r j)) (q ∙ place-is σ (h .good) (σ .apex ∷ x) (a ∷ y) all) (h .image)
-        ∙ info-here σ (h .good) (σ .apex ∷ x) y a all
+        ap₂ (λ (j : ℕ) (r : List ℕ). infoIn (recordAt r j)) (q ∙ place-is σ (h .valid) (σ .apex ∷ x) (a ∷ y) all) (h .image)
+        ∙ info-here σ (h .valid) (σ .apex ∷ x) y a all
         in
         ap (λ (r : List ℕ). same r id) (sym (f ∙ ap (λ (t : List ℕ). identifierOf (record { number = a .number; info = t })) i)) ∙ sym s
 
-    pub stamp-other : b ≡ false → Stamps d len p id n d
-    unfolding stamped
+    pub stamp-other : b ≡ false → NumbersAt d len p id n d
+    unfolding withSeqNumber
     stamp-other z =
         record {
           room = refl;
           stamps = λ σ x y a h e q.
-              let t : stamped (id, n) a ≡ a = rw (identified σ x y a h e q ∙ z, stamped) in
+              let t : withSeqNumber (id, n) a ≡ a = rw (identified σ x y a h e q ∙ z, withSeqNumber) in
               rw (t, ← e) h;
         }
 
-    pub stamp-set : b ≡ true → {d′ : List ℕ} → d′ ≡ placed d p (encodeNumber (some n)) → Stamps d len p id n d′
-    unfolding stamped withNumber
+    pub stamp-set : b ≡ true → {d′ : List ℕ} → d′ ≡ placed d p (encodeNumber (some n)) → NumbersAt d len p id n d′
+    unfolding withSeqNumber withNumber
     stamp-set y {d′} k =
         let z = length-encodeNumber (some n) in
         let b = stamp-inside in
@@ -87,7 +87,7 @@ module _ {d : List ℕ} {len p n : ℕ} (w : Stampable d len p n) where
         record {
           room = l;
           stamps = λ σ x v a h e q.
-              let t : stamped (id, n) a ≡ numbered n a = rw (identified σ x v a h e q ∙ y, stamped) in
+              let t : withSeqNumber (id, n) a ≡ numbered n a = rw (identified σ x v a h e q ∙ y, withSeqNumber) in
               let m : suc (length x) < length (anchors σ) = omega (arith, ap length e, length-append x (a ∷ v)) in
               rw t
               (record {
@@ -95,14 +95,14 @@ module _ {d : List ℕ} {len p n : ℕ} (w : Stampable d len p n) where
                     ap (take len) k
                     ∙ take-placed d len p (encodeNumber (some n)) (omega arith) j
                     ∙ ap₂ (λ (s : List ℕ) (o : ℕ). placed s o (encodeNumber (some n))) (h .image) q
-                    ∙ set-number-law σ (h .good) (suc (length x)) n m
+                    ∙ set-number-law σ (h .valid) (suc (length x)) n m
                     ∙ ap (λ (r : List Anchor). encode (withOthers r σ)) (ap (numberSet (length x) n) e ∙ numberSet-at n x v a);
                 inside = omega (arith, h .inside);
-                good = numbered-good σ x v a n e (w .small) (h .good);
+                valid = numbered-valid σ x v a n e (w .small) (h .valid);
               });
         }
 
--- the anchors behind the old ones, one after the other
+-- the anchors after the old ones, one after the other
 
 first-of : {A : Type 0} (l : List A) → 1 ≤ length l → (a : A) × (r : List A) × (l ≡ a ∷ r)
 first-of [] h = absurd (omega arith)
@@ -114,7 +114,7 @@ none-of (a ∷ r) h = absurd (omega arith)
 
 module _ (id : List ℕ) (n : ℕ) (d₀ : List ℕ) (len k count : ℕ) where
   abbrev set : Anchor → Anchor
-  set = stamped (id, n)
+  set = withSeqNumber (id, n)
 
   -- `done` have been seen, `rest` have not
   pub record Seen (σ : Store) (old new : List Anchor) (d : List ℕ) (j p : ℕ) : Type 0 where
@@ -155,9 +155,9 @@ module _ (id : List ℕ) (n : ℕ) (d₀ : List ℕ) (len k count : ℕ) where
   -- the next one
   record Next (σ : Store) (old new : List Anchor) (d : List ℕ) (j p : ℕ) (v : Seen σ old new d j p) : Type 0 where
     anchor : Anchor
-    behind : List Anchor
-    rest : v .rest ≡ anchor ∷ behind
-    parts : old ++ (v .done ++ v .rest) ≡ (old ++ v .done) ++ (anchor ∷ behind)
+    after : List Anchor
+    rest : v .rest ≡ anchor ∷ after
+    parts : old ++ (v .done ++ v .rest) ≡ (old ++ v .done) ++ (anchor ∷ after)
     place : p ≡ placeOf (encode (withOthers (old ++ (v .done ++ v .rest)) σ)) (suc (length (old ++ v .done)))
 
   next : (σ : Store) (old new : List Anchor) (d : List ℕ) (j p : ℕ) (v : Seen σ old new d j p) → j < count → Next σ old new d j p v
@@ -167,12 +167,12 @@ module _ (id : List ℕ) (n : ℕ) (d₀ : List ℕ) (len k count : ℕ) where
       let e : l ≡ (old ++ v .done) ++ (f .0 ∷ f .1) = ap (λ (r : List Anchor). old ++ (v .done ++ r)) (f .2) ∙ sym (append-assoc old (v .done) (f .0 ∷ f .1)) in
       record {
         anchor = f .0;
-        behind = f .1;
+        after = f .1;
         rest = f .2;
         parts = e;
         place =
             v .place
-            ∙ sym (place-is (withOthers l σ) (v .holds .holds .good) (σ .apex ∷ (old ++ v .done)) (f .0 ∷ f .1) (ap (λ (r : List Anchor). σ .apex ∷ r) e));
+            ∙ sym (place-is (withOthers l σ) (v .holds .holds .valid) (σ .apex ∷ (old ++ v .done)) (f .0 ∷ f .1) (ap (λ (r : List Anchor). σ .apex ∷ r) e));
       }
 
   module _ {d : List ℕ} {j p : ℕ} (w : Stamping d j p) where
@@ -185,7 +185,7 @@ module _ (id : List ℕ) (n : ℕ) (d₀ : List ℕ) (len k count : ℕ) where
         let τ = withOthers (s .old ++ (v .done ++ v .rest)) (s .store) in
         omega (
           arith,
-          rules τ (v .holds .holds .good) .anchor-count,
+          rules τ (v .holds .holds .valid) .anchor-count,
           length-append (s .old) (v .done ++ v .rest),
           length-append (v .done) (v .rest),
           v .at,
@@ -193,7 +193,7 @@ module _ (id : List ℕ) (n : ℕ) (d₀ : List ℕ) (len k count : ℕ) where
         )
 
     module _ (more : j < count) where
-      pub stamping-able : ScratchBoth d₀ len k → n ≤ maxNumber → Stampable d len p n
+      pub stamping-able : ScratchBoth d₀ len k → n ≤ maxNumber → CanNumber d len p n
       stamping-able s b =
           let σ = s .store in
           let v = w .seen σ (s .old) (s .new) (s .holds) in
@@ -203,39 +203,39 @@ module _ (id : List ℕ) (n : ℕ) (d₀ : List ℕ) (len k count : ℕ) where
             holds = v .holds .holds;
             before = s .old ++ v .done;
             anchor = m .anchor;
-            behind = m .behind;
+            after = m .after;
             parts = m .parts;
             place = m .place;
             small = b;
           }
 
-      module _ {d′ : List ℕ} (s : Stamps d len p id n d′) {p′ : ℕ} (q : p′ ≡ recordEnd (take len d′) p) where
+      module _ {d′ : List ℕ} (s : NumbersAt d len p id n d′) {p′ : ℕ} (q : p′ ≡ recordEnd (take len d′) p) where
         seen-on : (σ : Store) (old new : List Anchor) → Seen σ old new d j p → Seen σ old new d′ (j + 1) p′
         seen-on σ old new v =
             let m = next σ old new d j p v more in
             let a = set (m .anchor) in
             let x = old ++ v .done in
-            let e : x ++ (a ∷ m .behind) ≡ old ++ ((v .done ++ (a ∷ [])) ++ m .behind) =
-            append-assoc old (v .done) (a ∷ m .behind) ∙ ap (λ (r : List Anchor). old ++ r) (sym (append-assoc (v .done) (a ∷ []) (m .behind)))
+            let e : x ++ (a ∷ m .after) ≡ old ++ ((v .done ++ (a ∷ [])) ++ m .after) =
+            append-assoc old (v .done) (a ∷ m .after) ∙ ap (λ (r : List Anchor). old ++ r) (sym (append-assoc (v .done) (a ∷ []) (m .after)))
             in
-            let h : Holds (withOthers (x ++ (a ∷ m .behind)) σ) d′ len =
-            s .stamps (withOthers (old ++ (v .done ++ v .rest)) σ) x (m .behind) (m .anchor) (v .holds .holds) (m .parts) (m .place)
+            let h : Holds (withOthers (x ++ (a ∷ m .after)) σ) d′ len =
+            s .stamps (withOthers (old ++ (v .done ++ v .rest)) σ) x (m .after) (m .anchor) (v .holds .holds) (m .parts) (m .place)
             in
-            let τ = withOthers (x ++ (a ∷ m .behind)) σ in
+            let τ = withOthers (x ++ (a ∷ m .after)) σ in
             let end : p′ ≡ upTo σ (σ .apex ∷ (old ++ (v .done ++ (a ∷ [])))) =
             q
             ∙ ap (recordEnd (take len d′)) (v .place)
-            ∙ record-end-is τ d′ len h (σ .apex ∷ x) (m .behind) a refl
+            ∙ record-end-is τ d′ len h (σ .apex ∷ x) (m .after) a refl
             ∙ sym (next-place σ (σ .apex ∷ x) a)
             ∙ ap (λ (r : List Anchor). upTo σ (σ .apex ∷ r)) (append-assoc old (v .done) (a ∷ []))
             in
             record {
               done = v .done ++ (a ∷ []);
-              rest = m .behind;
+              rest = m .after;
               parts =
                   v .parts
                   ∙ ap (λ (r : List Anchor). v .done ++ map set r) (m .rest)
-                  ∙ sym (append-assoc (v .done) (a ∷ []) (map set (m .behind)));
+                  ∙ sym (append-assoc (v .done) (a ∷ []) (map set (m .after)));
               holds = record { holds = rw e at h; count = v .holds .count };
               at = omega (arith, v .at, length-append (v .done) (a ∷ []));
               left = omega (arith, v .left, ap length (m .rest));
@@ -259,4 +259,4 @@ module _ (id : List ℕ) (n : ℕ) (d₀ : List ℕ) (len k count : ℕ) where
 pub old-few : {d : List ℕ} {len k : ℕ} → ScratchBoth d len k → k ≤ 32
 old-few s =
     let τ = withOthers (s .old ++ s .new) (s .store) in
-    omega (arith, rules τ (s .holds .holds .good) .anchor-count, length-append (s .old) (s .new), s .holds .count)
+    omega (arith, rules τ (s .holds .holds .valid) .anchor-count, length-append (s .old) (s .new), s .holds .count)

@@ -25,7 +25,7 @@ use Rattle.message.specs.Fields.{bodyIn, seqNumbersIn}
 use Rattle.message.specs.Rows.{row-36}
 use Rattle.message.proofs.Asked.{Asked, asked, asked-seqNumbers}
 use Rattle.message.proofs.Numbers.{readNumber, pair-whole}
-use Rattle.protocol.specs.Update.{stamped, allStamped}
+use Rattle.protocol.specs.Update.{withSeqNumber, withSeqNumbers}
 use Rattle.apply.specs.Scratch.{HoldsBoth, ScratchBoth}
 use Rattle.apply.specs.Edits.{Renumbers}
 use Rattle.apply.specs.Update.{Numerable}
@@ -42,13 +42,13 @@ module _ (s : List ℕ) (content : Element) (h : row-36 Update s content ≡ Fit
   list-placed =
       let two = then-both _ _ h in
       let o = one-fits s (content .start) (content .stop) (content .at) refl (optional 0x30 _ end) end (two .1) in
-      let f = chosen s (content .start) (content .stop) (content .at) refl (o .good) 0x30 _ (o .alone) in
+      let f = chosen s (content .start) (content .stop) (content .at) refl (o .valid) 0x30 _ (o .alone) in
       placed 0xA2 s _ _ _ _ (f .fits)
 
   pairs-whole : Every (Whole s) (inside s (field 0xA2 s (bodyIn s content)))
   pairs-whole =
       let list = field 0xA2 s (bodyIn s content) in
-      by-test (list .good)
+      by-test (list .valid)
       (λ g.
       let f = list-placed .0 g in
       let m = obeys-fits s (list .start) (list .stop) (list .at) notEmpty (many (tagged 0x30 TAMPSequenceNumber)) (f .fits) .0 in
@@ -70,16 +70,16 @@ module _ (s : List ℕ) (stop : ℕ) (d₀ : List ℕ) (len k start : ℕ) where
   pairsFrom at = map (pairOf s) (elements s at stop)
 
   -- the pairs left do to the scratch what all do to the first scratch
-  pub record Left (σ : Store) (old new : List Anchor) (d : List ℕ) (at : ℕ) : Type 0 where
+  pub record PairsLeft (σ : Store) (old new : List Anchor) (d : List ℕ) (at : ℕ) : Type 0 where
     pub now : List Anchor
     pub holds : HoldsBoth σ old now d len k
-    pub rest : allStamped (pairsFrom at) now ≡ allStamped (pairsFrom start) new
+    pub rest : withSeqNumbers (pairsFrom at) now ≡ withSeqNumbers (pairsFrom start) new
 
   pub record Pairing (d : List ℕ) (at : ℕ) : Type 0 where
     pub room : length d ≡ length d₀
     pub small : Every (λ p. p .1 ≤ maxNumber) (pairsFrom at)
-    pub whole : Every (Whole s) (elements s at stop)
-    pub left : (σ : Store) (old new : List Anchor) → HoldsBoth σ old new d₀ len k → Left σ old new d at
+    pub encoding : Every (Whole s) (elements s at stop)
+    pub left : (σ : Store) (old new : List Anchor) → HoldsBoth σ old new d₀ len k → PairsLeft σ old new d at
 
   module _ {d : List ℕ} {at : ℕ} (w : Pairing d at) where
     pub pairing-scratch : ScratchBoth d₀ len k → ScratchBoth d len k
@@ -93,7 +93,7 @@ module _ (s : List ℕ) (stop : ℕ) (d₀ : List ℕ) (len k start : ℕ) where
       turned = run-turn s at stop q more refl
 
       number-is : n ≡ number (contents s (field 0x02 s e))
-      number-is = let a : Every (Whole s) (e ∷ elements s (nextAt e stop) stop) = rw turned at (w .whole) in z ∙ ap (readNumber s) y ∙ a .0
+      number-is = let a : Every (Whole s) (e ∷ elements s (nextAt e stop) stop) = rw turned at (w .encoding) in z ∙ ap (readNumber s) y ∙ a .0
 
       pub pairing-small : n ≤ maxNumber
       pairing-small =
@@ -101,42 +101,42 @@ module _ (s : List ℕ) (stop : ℕ) (d₀ : List ℕ) (len k start : ℕ) where
           rw number-is (a .0)
 
       module _ {g : Element} (x : g ≡ field 0x04 s e) {id : List ℕ} (u : id ≡ contents s g) {d′ : List ℕ}
-          (one : Renumbers (map (stamped (id, n))) d len k d′) {next : ℕ} (j : next ≡ nextAt e stop) where
-        left-on : (σ : Store) (old new : List Anchor) → Left σ old new d at → Left σ old new d′ next
-        unfolding allStamped
+          (one : Renumbers (map (withSeqNumber (id, n))) d len k d′) {next : ℕ} (j : next ≡ nextAt e stop) where
+        left-on : (σ : Store) (old new : List Anchor) → PairsLeft σ old new d at → PairsLeft σ old new d′ next
+        unfolding withSeqNumbers
         left-on σ old new p =
             let t : pairsFrom at ≡ pairOf s e ∷ pairsFrom next = ap (map (pairOf s)) (run-turn s at stop q more j) in
             let pair : _≡_ {A = List ℕ × ℕ} (id, n) (pairOf s e) = ap₂ (λ (i : List ℕ) (m : ℕ). (i, m)) (u ∙ ap (contents s) x) number-is in
             record {
-              now = map (stamped (id, n)) (p .now);
+              now = map (withSeqNumber (id, n)) (p .now);
               holds = one .does σ old (p .now) (p .holds);
-              rest = ap (λ (r : List ℕ × ℕ). allStamped (pairsFrom next) (map (stamped r) (p .now))) pair ∙ (rw t at (p .rest));
+              rest = ap (λ (r : List ℕ × ℕ). withSeqNumbers (pairsFrom next) (map (withSeqNumber r) (p .now))) pair ∙ (rw t at (p .rest));
             }
 
         pub pairing-on : Pairing d′ next
         pairing-on =
             let t = run-turn s at stop q more j in
             let a : Every (λ p. p .1 ≤ maxNumber) (pairOf s e ∷ pairsFrom next) = rw t at (w .small) in
-            let b : Every (Whole s) (e ∷ elements s next stop) = rw t at (w .whole) in
+            let b : Every (Whole s) (e ∷ elements s next stop) = rw t at (w .encoding) in
             record {
               room = one .room ∙ w .room;
               small = a .1;
-              whole = b .1;
+              encoding = b .1;
               left = λ σ old new h. left-on σ old new (w .left σ old new h);
             }
 
         pub pairing-less : stop - next < stop - at
         pairing-less = omega (arith, run-on s at stop q more j)
 
-    pub pairing-end : (ps : List (List ℕ × ℕ)) → ps ≡ pairsFrom start → stop ≤ at → Renumbers (allStamped ps) d₀ len k d
-    unfolding allStamped
+    pub pairing-end : (ps : List (List ℕ × ℕ)) → ps ≡ pairsFrom start → stop ≤ at → Renumbers (withSeqNumbers ps) d₀ len k d
+    unfolding withSeqNumbers
     pairing-end ps t h =
         record {
           room = w .room;
           does = λ σ old new held.
               let p = w .left σ old new held in
               let z : pairsFrom at ≡ [] = ap (map (pairOf s)) (elements-end s at stop h) in
-              let o : p .now ≡ allStamped (pairsFrom start) new = rw z at (p .rest) in
+              let o : p .now ≡ withSeqNumbers (pairsFrom start) new = rw z at (p .rest) in
               rw (t, ← o) (p .holds);
         }
 
@@ -151,6 +151,6 @@ pairing-start s d len k q o w {list} e =
     record {
       room = refl;
       small = rw (pairs-of s q e) at (asked-seqNumbers s q (w .asked) (w .update) o);
-      whole = rw (← e) at (asked-whole s q (asked s q (w .asked)) (w .update));
+      encoding = rw (← e) at (asked-whole s q (asked s q (w .asked)) (w .update));
       left = λ σ old new h. record { now = new; holds = h; rest = refl };
     }

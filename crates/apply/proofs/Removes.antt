@@ -9,7 +9,7 @@ use lib.Dec.{leb}
 use borrow.Author.Tests.{leb-true, leb-false}
 use Rattle.octets.specs.Status.{success, notAuthorized, apexTAMPAnchor, trustAnchorNotFound}
 use Rattle.octets.specs.First.{givenIf}
-use Rattle.octets.specs.Lists.{anyOf, keep}
+use Rattle.octets.specs.Lists.{anyOf, filter}
 use Rattle.octets.proofs.Lists.{by-test, distinct-parts}
 use Rattle.rights.specs.Rights.{Rights}
 use Rattle.rights.specs.Decision.{within}
@@ -17,22 +17,22 @@ use Rattle.anchor.specs.Info.{rightsOf}
 use Rattle.store.specs.declared.Position.{Position}
 use Rattle.store.specs.declared.Position.the-variants.{At, Nothing}
 use Rattle.store.specs.declared.Sought.the-variants.{TaggedPublicKey}
-use Rattle.store.specs.Store.{Anchor, Store, anchors, keyOf}
+use Rattle.store.specs.Store.{Anchor, Store, anchors, publicKeyOf}
 use Rattle.store.specs.Records.{recordsOf}
 use Rattle.store.specs.Parts.{infoIn, isSought, firstFrom}
 use Rattle.store.proofs.Parts.{isAt, first-any}
 use Rattle.store.specs.Steps.{withOthers}
 use Rattle.protocol.specs.Update.{Step, hasKey, without, removed}
 use Rattle.protocol.proofs.Lists.{keep-append}
-use Rattle.protocol.proofs.WellFormed.{GoodAnchors, good-removed}
+use Rattle.protocol.proofs.WellFormed.{ValidAnchors, valid-removed}
 use Rattle.apply.specs.declared.Applied.the-variants.{Done, Failed}
 use Rattle.apply.specs.Scratch.{Holds, Scratch, infoAt}
-use Rattle.apply.specs.Edits.{Cuttable, Cuts}
+use Rattle.apply.specs.Edits.{CanRemove, RemovesAnchor}
 use Rattle.apply.specs.Entry.{Applies, untagged}
 use Rattle.apply.proofs.Held.{search-is, info-is}
 use Rattle.apply.proofs.Found.{First, head-found, later-found, any-one, keep-rest, kept-front}
 use Rattle.apply.proofs.Stored.{key-once}
-use Rattle.apply.proofs.Adds.{with-anchors, good-anchors, unmoved}
+use Rattle.apply.proofs.Adds.{with-anchors, valid-anchors, unmoved}
 
 module _ (rights : Rights) (wanted : List ℕ) where
   abbrev removing : Anchor → List Anchor → List Anchor → Step
@@ -75,7 +75,7 @@ module _ (rights : Rights) (wanted : List ℕ) where
           k : ℕ
           place : j ≡ suc k
           first : First wantedIn (σ .others) k
-          alone : anyOf wantedIn (first .behind) ≡ false
+          alone : anyOf wantedIn (first .after) ≡ false
           info : infoAt (take len d) j ≡ first .here .info
 
         there : (σ : Store) → Holds σ d len → There σ
@@ -86,14 +86,14 @@ module _ (rights : Rights) (wanted : List ℕ) where
             let f = l .1 .2 in
             let x = σ .apex ∷ f .before in
             let s : j ≡ length x = omega (arith, f .place) in
-            let keys = distinct-parts (keyOf (σ .apex)) (map keyOf (σ .others)) (good-anchors σ (h .good) .keys) .1 in
+            let keys = distinct-parts (publicKeyOf (σ .apex)) (map publicKeyOf (σ .others)) (valid-anchors σ (h .valid) .keys) .1 in
             record {
               apex = l .0;
               k = k;
               place = q;
               first = f;
               alone = key-once (untagged wanted) (σ .others) f keys;
-              info = ap (infoAt (take len d)) s ∙ info-is σ d len h x (f .behind) (f .here) (ap (λ (r : List Anchor). σ .apex ∷ r) (f .parts));
+              info = ap (infoAt (take len d)) s ∙ info-is σ d len h x (f .after) (f .here) (ap (λ (r : List Anchor). σ .apex ∷ r) (f .parts));
             }
 
         abbrev above : Anchor → Bool
@@ -106,7 +106,7 @@ module _ (rights : Rights) (wanted : List ℕ) where
             let v = there σ h in
             let f = v .first in
             ap (anyOf (λ a. wantedIn a && above a)) (f .parts)
-            ∙ any-one wantedIn (f .before) (f .behind) (f .here) (f .passes) (f .fails) (v .alone) above
+            ∙ any-one wantedIn (f .before) (f .after) (f .here) (f .passes) (f .fails) (v .alone) above
             ∙ ap not (ap (λ (i : List ℕ). within rights (rightsOf i)) (sym (q ∙ v .info)) ∙ sym w)
 
         -- 11
@@ -127,7 +127,7 @@ module _ (rights : Rights) (wanted : List ℕ) where
               let τ = withOthers (old ++ new) σ in
               rw (is-there τ h, there τ h .apex, judged τ h q w ∙ ap not y)
 
-          pub remove-cuttable : Scratch d len → Cuttable d len j
+          pub remove-cuttable : Scratch d len → CanRemove d len j
           remove-cuttable s =
               let σ = s .store in
               let v = there σ (s .holds) in
@@ -135,15 +135,15 @@ module _ (rights : Rights) (wanted : List ℕ) where
               record {
                 store = σ;
                 holds = s .holds;
-                behind = omega (arith, v .place);
-                inside = omega (arith, v .place, f .place, ap length (f .parts), length-append (f .before) (f .here ∷ f .behind));
+                after = omega (arith, v .place);
+                inside = omega (arith, v .place, f .place, ap length (f .parts), length-append (f .before) (f .here ∷ f .after));
               }
 
           -- how many of the old ones are left
           abbrev left : ℕ → ℕ → Type 0
           left k m = (j ≤ k → m + 1 ≡ k) × (k < j → m ≡ k)
 
-          pub remove-cuts : {k m r : ℕ} {d′ : List ℕ} → left k m → Cuts d len j r d′ → Applies removing d len k (Done r m) d′
+          pub remove-cuts : {k m r : ℕ} {d′ : List ℕ} → left k m → RemovesAnchor d len j r d′ → Applies removing d len k (Done r m) d′
           remove-cuts {k} {m} {r} {d′} c u =
               record {
                 room = u .room;
@@ -152,15 +152,15 @@ module _ (rights : Rights) (wanted : List ℕ) where
                     let v = there τ (h .holds) in
                     let f = v .first in
                     let x = f .before in
-                    let rest = f .behind in
+                    let rest = f .after in
                     let kept : without (untagged wanted) old ++ without (untagged wanted) new ≡ x ++ rest =
                     sym (keep-append (λ a. not (wantedIn a)) old new)
-                    ∙ ap (keep (λ a. not (wantedIn a))) (f .parts)
+                    ∙ ap (filter (λ a. not (wantedIn a))) (f .parts)
                     ∙ keep-rest wantedIn x rest (f .here) (f .passes) (f .fails) (v .alone)
                     in
-                    let g = good-removed rights (σ .apex) old new (untagged wanted) (good-anchors τ (h .holds .good)) in
-                    let g₁ : GoodAnchors (σ .apex ∷ (without (untagged wanted) old ++ without (untagged wanted) new)) = rw (removes σ old new (h .holds)) at g in
-                    let g₂ = with-anchors τ (x ++ rest) (h .holds .good) (rw kept at g₁) in
+                    let g = valid-removed rights (σ .apex) old new (untagged wanted) (valid-anchors τ (h .holds .valid)) in
+                    let g₁ : ValidAnchors (σ .apex ∷ (without (untagged wanted) old ++ without (untagged wanted) new)) = rw (removes σ old new (h .holds)) at g in
+                    let g₂ = with-anchors τ (x ++ rest) (h .holds .valid) (rw kept at g₁) in
                     let counts = kept-front wantedIn x rest (f .here) old new (f .passes) (f .fails) (v .alone) (f .parts) in
                     rw (removes σ old new (h .holds))
                     (record {

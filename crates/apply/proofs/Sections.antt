@@ -9,8 +9,8 @@ use lib.ListN.{length, take, drop, length-append}
 use lib.Seq.{length-take-le, getD-take}
 use lib.Dec.{leb}
 use borrow.Author.Tests.{leb-true}
-use Rattle.octets.specs.Limits.{maxName, maxCommunities}
-use Rattle.octets.specs.Lists.{allOf, keep}
+use Rattle.octets.specs.Limits.{maxNameOctets, maxCommunities}
+use Rattle.octets.specs.Lists.{allOf, filter}
 use Rattle.octets.specs.Octets.{octet, member, placed}
 use Rattle.octets.proofs.Placed.{length-placed}
 use Rattle.octets.proofs.Lists.{keep-in, keep-out, keep-length}
@@ -30,7 +30,7 @@ module _ {d : List ℕ} {len : ℕ} {l : List (List ℕ)} (w : Section d len l) 
   pub section-count : octet d 0 ≡ length l
   section-count = sym (getD-take len d 0 0 (omega (arith, section-size))) ∙ ap (λ (b : List ℕ). octet b 0) (w .image)
 
-  module _ (name : List ℕ) (few : length l < maxCommunities) (small : length name ≤ maxName) where
+  module _ (name : List ℕ) (few : length l < maxCommunities) (small : length name ≤ maxNameOctets) where
     pub join-bounds : (0 < len) × (len + 0 ≤ len) × (len ≤ length d) × (len + (1 + length name) ≤ length d + 0)
     join-bounds =
         let s = section-size in
@@ -83,22 +83,22 @@ stays removals c = not (member c removals)
 
 module _ (removals : List (List ℕ)) (name : List ℕ) where
   pub keep-none : {d : List ℕ} {len : ℕ} {b : Bool} → b ≡ member name removals → b ≡ true → KeepsName removals d len name len d
-  unfolding keep
+  unfolding filter
   keep-none m t =
       record {
         same-room = refl;
         keeps = λ l s.
-            let e : l ++ keep (stays removals) (name ∷ []) ≡ l = ap (λ (r : List (List ℕ)). l ++ r) (keep-out (stays removals) name [] (ap not (sym m ∙ t))) ∙ append-nil l in
+            let e : l ++ filter (stays removals) (name ∷ []) ≡ l = ap (λ (r : List (List ℕ)). l ++ r) (keep-out (stays removals) name [] (ap not (sym m ∙ t))) ∙ append-nil l in
             rw e s;
       }
 
   pub keep-one : {d : List ℕ} {len : ℕ} {b : Bool} → b ≡ member name removals → b ≡ false → {r : ℕ} {d′ : List ℕ} → Joins d len name r d′ → KeepsName removals d len name r d′
-  unfolding keep
+  unfolding filter
   keep-one m t j =
       record {
         same-room = j .same-room;
         keeps = λ l s.
-            let e : l ++ keep (stays removals) (name ∷ []) ≡ l ++ (name ∷ []) = ap (λ (r : List (List ℕ)). l ++ r) (keep-in (stays removals) name [] (ap not (sym m ∙ t))) in
+            let e : l ++ filter (stays removals) (name ∷ []) ≡ l ++ (name ∷ []) = ap (λ (r : List (List ℕ)). l ++ r) (keep-in (stays removals) name [] (ap not (sym m ∙ t))) in
             rw e (j .joins l s);
       }
 
@@ -121,9 +121,9 @@ module _ (removals : List (List ℕ)) (octets : List ℕ) (count : ℕ) (names�
     pub same-room : length names ≡ length names₀
     pub kept : List (List ℕ)
     pub section : Section names len kept
-    pub rest : kept ++ keep (stays removals) (namesFrom left (drop p octets)) ≡ keep (stays removals) (namesFrom count octets)
+    pub rest : kept ++ filter (stays removals) (namesFrom left (drop p octets)) ≡ filter (stays removals) (namesFrom count octets)
     pub few : length kept + left ≤ maxCommunities
-    pub small : allOf (λ c. leb (length c) maxName) (namesFrom left (drop p octets)) ≡ true
+    pub small : allOf (λ c. leb (length c) maxNameOctets) (namesFrom left (drop p octets)) ≡ true
 
   module _ {names : List ℕ} {len p left : ℕ} (w : Keeping names len p left) (more : 0 < left) where
     turn : namesFrom left (drop p octets) ≡ nameAt octets p ∷ namesFrom (left - 1) (drop (nameEnd octets p) octets)
@@ -131,10 +131,10 @@ module _ (removals : List (List ℕ)) (octets : List ℕ) (count : ℕ) (names�
         let e : left ≡ suc (left - 1) = omega arith in
         ap (λ (n : ℕ). namesFrom n (drop p octets)) e ∙ names-turn octets (left - 1) p
 
-    abbrev behind : List (List ℕ)
-    behind = namesFrom (left - 1) (drop (nameEnd octets p) octets)
+    abbrev after : List (List ℕ)
+    after = namesFrom (left - 1) (drop (nameEnd octets p) octets)
 
-    smalls : (leb (length (nameAt octets p)) maxName ≡ true) × (allOf (λ c. leb (length c) maxName) behind ≡ true)
+    smalls : (leb (length (nameAt octets p)) maxNameOctets ≡ true) × (allOf (λ c. leb (length c) maxNameOctets) after ≡ true)
     unfolding allOf
     smalls = and-eq-true-iff _ _ .0 (rw turn at (w .small))
 
@@ -151,9 +151,9 @@ module _ (removals : List (List ℕ)) (octets : List ℕ) (count : ℕ) (names�
         {q : ℕ} (n : q ≡ nameEnd octets p) where
       pub keeping-on : Keeping names′ r q (left - 1)
       keeping-on =
-          let one = keep (stays removals) (name ∷ []) in
-          let t : keep (stays removals) (namesFrom left (drop p octets)) ≡ one ++ keep (stays removals) behind =
-          ap (keep (stays removals)) (turn ∙ ap (λ (v : List ℕ). v ∷ behind) (sym e)) ∙ keep-append (stays removals) (name ∷ []) behind
+          let one = filter (stays removals) (name ∷ []) in
+          let t : filter (stays removals) (namesFrom left (drop p octets)) ≡ one ++ filter (stays removals) after =
+          ap (filter (stays removals)) (turn ∙ ap (λ (v : List ℕ). v ∷ after) (sym e)) ∙ keep-append (stays removals) (name ∷ []) after
           in
           let c = keep-length (stays removals) (name ∷ []) in
           record {
@@ -161,8 +161,8 @@ module _ (removals : List (List ℕ)) (octets : List ℕ) (count : ℕ) (names�
             kept = w .kept ++ one;
             section = k .keeps (w .kept) (w .section);
             rest =
-                append-assoc (w .kept) one (keep (stays removals) (namesFrom (left - 1) (drop q octets)))
-                ∙ ap (λ (m : ℕ). w .kept ++ (one ++ keep (stays removals) (namesFrom (left - 1) (drop m octets)))) n
+                append-assoc (w .kept) one (filter (stays removals) (namesFrom (left - 1) (drop q octets)))
+                ∙ ap (λ (m : ℕ). w .kept ++ (one ++ filter (stays removals) (namesFrom (left - 1) (drop m octets)))) n
                 ∙ ap (λ (v : List (List ℕ)). w .kept ++ v) (sym t)
                 ∙ w .rest;
             few = omega (arith, w .few, length-append (w .kept) one, c);
@@ -170,11 +170,11 @@ module _ (removals : List (List ℕ)) (octets : List ℕ) (count : ℕ) (names�
           }
 
   pub keeping-end : {names : List ℕ} {len p left : ℕ} → Keeping names len p left → left ≤ 0
-      → Section names len (keep (stays removals) (namesFrom count octets))
-  unfolding namesFrom keep
+      → Section names len (filter (stays removals) (namesFrom count octets))
+  unfolding namesFrom filter
   keeping-end {left = left} w h =
       let z : left ≡ 0 = omega arith in
-      let e : w .kept ≡ keep (stays removals) (namesFrom count octets) = sym (append-nil (w .kept)) ∙ (rw z at (w .rest)) in
+      let e : w .kept ≡ filter (stays removals) (namesFrom count octets) = sym (append-nil (w .kept)) ∙ (rw z at (w .rest)) in
       rw (← e) (w .section)
 
 pub keeping-start : (removals : List (List ℕ)) (image names : List ℕ) → FewNames image → Section names 1 []

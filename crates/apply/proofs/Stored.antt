@@ -7,24 +7,24 @@ use Rattle.octets.specs.Lists.{anyOf}
 use Rattle.octets.specs.Octets.{same, member, distinct}
 use Rattle.octets.proofs.Lists.{both, neither, same-answer, same-refl, same→≡, same-sym, distinct-parts}
 use Rattle.anchor.specs.Info.{publicKey}
-use Rattle.store.specs.Store.{Anchor, keyOf}
+use Rattle.store.specs.Store.{Anchor, publicKeyOf}
 use Rattle.protocol.specs.Update.{hasKey}
 use Rattle.apply.proofs.Found.{First, any-less, any-one}
 
-none-has : (key : List ℕ) (l : List Anchor) → member key (map keyOf l) ≡ false → anyOf (hasKey key) l ≡ false
+none-has : (key : List ℕ) (l : List Anchor) → member key (map publicKeyOf l) ≡ false → anyOf (hasKey key) l ≡ false
 unfolding member anyOf
 none-has key [] e = refl
 none-has key (b ∷ l) e =
-    let h = neither (same key (keyOf b)) (anyOf (same key) (map keyOf l)) e in
-    rw (same-sym (keyOf b) key ∙ h .0) (none-has key l (h .1))
+    let h = neither (same key (publicKeyOf b)) (anyOf (same key) (map publicKeyOf l)) e in
+    rw (same-sym (publicKeyOf b) key ∙ h .0) (none-has key l (h .1))
 
-none-behind : (key : List ℕ) (x y : List Anchor) (a : Anchor) → hasKey key a ≡ true → distinct (map keyOf (x ++ (a ∷ y))) ≡ true → anyOf (hasKey key) y ≡ false
-none-behind key [] y a t d = none-has key y (rw (same→≡ (keyOf a) key t) at (distinct-parts (keyOf a) (map keyOf y) d .0))
-none-behind key (b ∷ x) y a t d = none-behind key x y a t (distinct-parts (keyOf b) (map keyOf (x ++ (a ∷ y))) d .1)
+none-after : (key : List ℕ) (x y : List Anchor) (a : Anchor) → hasKey key a ≡ true → distinct (map publicKeyOf (x ++ (a ∷ y))) ≡ true → anyOf (hasKey key) y ≡ false
+none-after key [] y a t d = none-has key y (rw (same→≡ (publicKeyOf a) key t) at (distinct-parts (publicKeyOf a) (map publicKeyOf y) d .0))
+none-after key (b ∷ x) y a t d = none-after key x y a t (distinct-parts (publicKeyOf b) (map publicKeyOf (x ++ (a ∷ y))) d .1)
 
-pub key-once : (key : List ℕ) (l : List Anchor) {k : ℕ} (f : First (hasKey key) l k) → distinct (map keyOf l) ≡ true → anyOf (hasKey key) (f .behind) ≡ false
+pub key-once : (key : List ℕ) (l : List Anchor) {k : ℕ} (f : First (hasKey key) l k) → distinct (map publicKeyOf l) ≡ true → anyOf (hasKey key) (f .after) ≡ false
 key-once key l f d =
-    none-behind key (f .before) (f .behind) (f .here) (f .passes) (ap (λ (r : List Anchor). distinct (map keyOf r)) (sym (f .parts)) ∙ d)
+    none-after key (f .before) (f .after) (f .here) (f .passes) (ap (λ (r : List Anchor). distinct (map publicKeyOf r)) (sym (f .parts)) ∙ d)
 
 module _ (t : List ℕ) where
   abbrev hasOctets : Anchor → Bool
@@ -50,8 +50,8 @@ module _ (t : List ℕ) where
   octets-nowhere l e = any-both l ∙ any-less (hasKey (publicKey t)) hasOctets l e
 
   -- else it is stored if it is the anchor with its key
-  pub octets-once : (l : List Anchor) {k : ℕ} (f : First (hasKey (publicKey t)) l k) → distinct (map keyOf l) ≡ true → anyOf hasOctets l ≡ hasOctets (f .here)
+  pub octets-once : (l : List Anchor) {k : ℕ} (f : First (hasKey (publicKey t)) l k) → distinct (map publicKeyOf l) ≡ true → anyOf hasOctets l ≡ hasOctets (f .here)
   octets-once l f d =
       any-both l
       ∙ ap (anyOf hasBoth) (f .parts)
-      ∙ any-one (hasKey (publicKey t)) (f .before) (f .behind) (f .here) (f .passes) (f .fails) (key-once (publicKey t) l f d) hasOctets
+      ∙ any-one (hasKey (publicKey t)) (f .before) (f .after) (f .here) (f .passes) (f .fails) (key-once (publicKey t) l f d) hasOctets

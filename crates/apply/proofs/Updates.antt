@@ -11,7 +11,7 @@ use Rattle.octets.specs.Limits.{maxUpdates}
 use Rattle.rights.specs.Rights.{Rights}
 use Rattle.message.specs.declared.Request.{Request}
 use Rattle.message.specs.Fields.{entriesIn, seqNumbersIn}
-use Rattle.protocol.specs.Update.{steps, allStamped}
+use Rattle.protocol.specs.Update.{steps, withSeqNumbers}
 use Rattle.protocol.specs.Effect.{updateEffect}
 use Rattle.apply.specs.declared.Marks.{Marks}
 use Rattle.apply.specs.Edits.{Renumbers}
@@ -36,7 +36,7 @@ module _ {s : List ℕ} {rights : Rights} {q : Request} {d : List ℕ} {len : �
             };
       }
 
-  pub update-done : {d″ : List ℕ} → Renumbers (allStamped (seqNumbersIn s (q .body))) d′ (m .len) (m .old) d″ → UpdatedAs s rights q d len codes (m .len) d″ codes′
+  pub update-done : {d″ : List ℕ} → Renumbers (withSeqNumbers (seqNumbersIn s (q .body))) d′ (m .len) (m .old) d″ → UpdatedAs s rights q d len codes (m .len) d″ codes′
   unfolding updateEffect
   update-done r =
       let few : ltb maxUpdates (length (entriesIn s (q .body) (q .msgref))) ≡ false = le-ltb _ _ (w .few) in

@@ -5,7 +5,7 @@ use mathlib.Core.List.{List, _++_}
 use mathlib.Core.Path.{_≡_}
 use lib.ListN.{length}
 use lib.Dec.{ltb}
-use Rattle.octets.specs.Limits.{maxName}
+use Rattle.octets.specs.Limits.{maxNameOctets}
 use Rattle.octets.specs.Lists.{allOf, anyOf}
 use Rattle.octets.specs.Octets.{distinct}
 use Rattle.der.specs.Contents.{oidOk}
@@ -20,14 +20,14 @@ use Rattle.apply.specs.declared.Communities.{Communities}
 use Rattle.apply.specs.Scratch.{Holds, Scratch}
 
 -- past 24, and 17 for an OID over 32 octets
-pub record Puttable (removals additions : List (List ℕ)) (d : List ℕ) (len : ℕ) : Type 0 where
+pub record CanUpdate (removals additions : List (List ℕ)) (d : List ℕ) (len : ℕ) : Type 0 where
   pub scratch : Scratch d len
   pub apart : distinct (removals ++ additions) ≡ true
-  pub short : anyOf (λ c. ltb maxName (length c)) (removals ++ additions) ≡ false
+  pub short : anyOf (λ c. ltb maxNameOctets (length c)) (removals ++ additions) ≡ false
   pub oids : allOf oidOk additions ≡ true
 
 -- the answer and the scratch are those of the two lists
-pub record Puts (present : Bool) (removals additions : List (List ℕ)) (d : List ℕ) (len : ℕ) (r : Communities) (d′ : List ℕ) : Type 0 where
+pub record UpdatesCommunities (present : Bool) (removals additions : List (List ℕ)) (d : List ℕ) (len : ℕ) (r : Communities) (d′ : List ℕ) : Type 0 where
   pub room : length d′ ≡ length d
   pub status : (σ : Store) → Holds σ d len → r .status ≡ communityStatus present removals additions (σ .communities)
   pub after : (σ : Store) → Holds σ d len → Holds (withCommunities (communitiesAfter present removals additions (σ .communities)) σ) d′ (r .len)

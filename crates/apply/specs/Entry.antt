@@ -6,7 +6,7 @@ use mathlib.Core.Path.{_≡_}
 use lib.ListN.{length, drop}
 use Rattle.octets.specs.declared.Status.{Status}
 use Rattle.octets.specs.Status.{success}
-use Rattle.der.specs.Element.{whole}
+use Rattle.der.specs.Element.{encoding}
 use Rattle.syntax.specs.Asn.{StoredTrustAnchorInfo}
 use Rattle.anchor.specs.Judge.{conforms}
 use Rattle.store.specs.Store.{Anchor, Store}
@@ -19,9 +19,9 @@ use Rattle.apply.specs.declared.Entered.{Entered}
 use Rattle.apply.specs.Scratch.{HoldsBoth}
 
 -- an entry's status; how long the image is then, and how many anchors stand that stood before the message: "a failed one changes nothing"
-abbrev pub statusOf : Applied → Status
-statusOf (Done n k) = success
-statusOf (Failed status) = status
+abbrev pub appliedStatus : Applied → Status
+appliedStatus (Done n k) = success
+appliedStatus (Failed status) = status
 
 abbrev pub lengthAfter : ℕ → Applied → ℕ
 lengthAfter len (Done n k) = n
@@ -33,7 +33,7 @@ oldAfter old (Failed status) = old
 
 -- the answer r and the scratch d are those of a step
 pub record Does (σ : Store) (done : Step) (r : Applied) (len k : ℕ) (d : List ℕ) : Type 0 where
-  pub status : statusOf r ≡ done .status
+  pub status : appliedStatus r ≡ done .status
   pub after : HoldsBoth σ (done .old) (done .new) d (lengthAfter len r) (oldAfter k r)
 
 -- the scratch d has become d′, with the answer r, as the step f says of every store that d may hold
@@ -55,7 +55,7 @@ abbrev pub Conforming : List ℕ → Type 0
 Conforming t = conforms StoredTrustAnchorInfo t ≡ true
 
 abbrev pub Adding : List ℕ → Entry → Type 0
-Adding s (entry.Add e) = Conforming (whole s e)
+Adding s (entry.Add e) = Conforming (encoding s e)
 Adding s entry.AddCertificate = Unit {0}
 Adding s (entry.Remove e) = Unit {0}
 Adding s entry.Change = Unit {0}

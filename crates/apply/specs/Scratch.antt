@@ -1,4 +1,4 @@
--- The scratch image: a lent buffer that holds an image in its first octets. What stands behind the image is free.
+-- The scratch image: a lent buffer that holds an image in its first octets. What stands after the image is free.
 use Prim.Native.Nat.{ℕ, zero, suc, _≤_}
 use mathlib.Core.Bool.{true}
 use mathlib.Core.List.{List, _++_}
@@ -16,7 +16,7 @@ use Rattle.store.specs.Steps.{withOthers}
 pub record Holds (σ : Store) (d : List ℕ) (len : ℕ) : Type 0 where
   pub image : take len d ≡ encode σ
   pub inside : len ≤ length d
-  pub good : wellFormed σ ≡ true
+  pub valid : wellFormed σ ≡ true
 
 -- .. of some store, and there is room for the largest image
 pub record Scratch (d : List ℕ) (len : ℕ) : Type 0 where
@@ -24,7 +24,7 @@ pub record Scratch (d : List ℕ) (len : ℕ) : Type 0 where
   pub store : Store
   pub holds : Holds store d len
 
--- .. in which the anchors behind the apex are old, k that stood before this message, and new, which it appended
+-- .. in which the anchors after the apex are old, k that stood before this message, and new, which it appended
 pub record HoldsBoth (σ : Store) (old new : List Anchor) (d : List ℕ) (len k : ℕ) : Type 0 where
   pub holds : Holds (withOthers (old ++ new) σ) d len
   pub count : length old ≡ k

@@ -1,13 +1,11 @@
 -- What the code of an Update needs and leaves, by the rule book's `steps` and `allStamped`.
 use Prim.Native.Nat.{ℕ, _≤_}
-use mathlib.Core.Bool.{true, false}
 use mathlib.Core.List.{List, [], map}
 use mathlib.Core.Path.{_≡_}
 use lib.ListN.{length}
 use Rattle.octets.specs.declared.Status.{Status}
 use Rattle.octets.specs.Limits.{maxUpdates}
 use Rattle.octets.specs.Octets.{placed}
-use Rattle.der.specs.declared.Element.{Element}
 use Rattle.syntax.specs.declared.TampType.the-variants.{Update}
 use Rattle.rights.specs.Rights.{Rights}
 use Rattle.store.specs.Store.{Store}

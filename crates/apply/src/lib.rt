@@ -13,31 +13,31 @@ ghost use Prim.Native.Nat.{_<_, _≤_};
 ghost use lib.ListN.{length};
 ghost use lib.Dec.{ltb, leb};
 ghost use Rattle.protocol.specs.Community.{afterRemovals};
-ghost use Rattle.octets.specs.Limits.{maxNumber, maxName};
+ghost use Rattle.octets.specs.Limits.{maxNumber, maxNameOctets};
 ghost use Rattle.octets.specs.Octets.{member, distinct};
-ghost use Rattle.octets.specs.Lists.{anyOf, keep};
+ghost use Rattle.octets.specs.Lists.{anyOf, filter};
 ghost use Rattle.rights.specs.Decision.{within};
 ghost use Rattle.anchor.specs.Info.{rightsOf};
-ghost use Rattle.anchor.specs.Judge.{statusOf as judgedStatus, judge};
+ghost use Rattle.anchor.specs.Judge.{checkStatus as judgedStatus, judge};
 ghost use Rattle.store.specs.Parts.{communitiesOf};
 ghost use Rattle.message.specs.Fields.{entryOf, seqNumbersIn};
-ghost use Rattle.protocol.specs.Update.{added, removed, step as stepOf, stamped, allStamped};
+ghost use Rattle.protocol.specs.Update.{added, removed, step as stepOf, withSeqNumber, withSeqNumbers};
 ghost use Rattle.apply.specs.Scratch.{Scratch, ScratchBoth, infoAt, signerRights};
-ghost use Rattle.apply.specs.Edits.{Growable, Appends, Cuttable, Cuts, Stampable, Stamps, Renumbers};
-ghost use Rattle.apply.specs.Entry.{statusOf, Applies, Enters, Conforming, Adding, untagged};
+ghost use Rattle.apply.specs.Edits.{Growable, Appends, CanRemove, RemovesAnchor, CanNumber, NumbersAt, Renumbers};
+ghost use Rattle.apply.specs.Entry.{appliedStatus, Applies, Enters, Conforming, Adding, untagged};
 ghost use Rattle.apply.specs.Names.{oidsFrom, Section, Joinable, Joins, KeepsName, FewNames, Addable, AddsName, AddableAll, AddsAll};
-ghost use Rattle.apply.specs.Community.{Puttable, Puts, CommunityReady, CommunityDone};
+ghost use Rattle.apply.specs.Community.{CanUpdate, UpdatesCommunities, CommunityReady, CommunityDone};
 ghost use Rattle.apply.specs.Update.{Enterable, EntersAll, Numerable, UpdatedAs};
 
 // What an entry of an Update comes to.
 pub enum Applied {
-    // 0: the length of the image, and how many of the anchors behind the apex stood before this message
+    // 0: the length of the image, and how many of the anchors after the apex stood before this message
     Done(usize, usize),
     // nothing changed
     Failed(Status),
 }
 
-// What an entry leaves: its status, the length of the image, and how many of the anchors behind the apex stood before this message.
+// What an entry leaves: its status, the length of the image, and how many of the anchors after the apex stood before this message.
 pub struct Entered {
     code: u8,
     len: usize,
@@ -104,10 +104,10 @@ fn append(work: &mut [u8], len: usize, t: &[u8]) -> usize
     edit::replace_items(work, len, count, items as u8, end, 0, &head, t)
 }
 
-// Removes the anchor at a position behind the apex. Gives the new length.
-fn cut(work: &mut [u8], len: usize, position: usize) -> usize
-    requires { ⌜ Cuttable (now work) len position ⌝ }
-    ensures { λ r. ⌜ Cuts (now (work .entry)) len position r (now (work .exit)) ⌝ }
+// Removes the anchor at a position after the apex. Gives the new length.
+fn remove_anchor(work: &mut [u8], len: usize, position: usize) -> usize
+    requires { ⌜ CanRemove (now work) len position ⌝ }
+    ensures { λ r. ⌜ RemovesAnchor (now (work .entry)) len position r (now (work .exit)) ⌝ }
 {
     let count = store::anchor_place(&work[..len]);
     let items = store::anchor_count(&work[..len]) - 1;
@@ -136,7 +136,11 @@ fn add(image: &[u8], i: usize, work: &mut [u8], len: usize, old: usize, t: &[u8]
         return Applied::Failed(Status::NOT_AUTHORIZED);
     }
     // no two public keys of a store are equal, so no other anchor can have the same octets
-    if let Position::At(p) = store::find(&work[..len], Sought::PublicKey, anchor::public_key(t)) {
+    if let Position::At(p) = store::find_anchor(
+        &work[..len],
+        Sought::PublicKey,
+        anchor::public_key(t),
+    ) {
         if octets::equal(info_at(&work[..len], p), t) {
             return Applied::Done(len, old);
         }
@@ -161,7 +165,7 @@ fn remove(image: &[u8], i: usize, work: &mut [u8], len: usize, old: usize, key: 
         r
         (now (work .exit)) ⌝ }
 {
-    let Position::At(p) = store::find(&work[..len], Sought::TaggedPublicKey, key) else {
+    let Position::At(p) = store::find_anchor(&work[..len], Sought::TaggedPublicKey, key) else {
         return Applied::Failed(Status::TRUST_ANCHOR_NOT_FOUND);
     };
     if p == 0 {
@@ -170,7 +174,7 @@ fn remove(image: &[u8], i: usize, work: &mut [u8], len: usize, old: usize, key: 
     if !is_within_signer(image, i, info_at(&work[..len], p)) {
         return Applied::Failed(Status::NOT_AUTHORIZED);
     }
-    let n = cut(work, len, p);
+    let n = remove_anchor(work, len, p);
     if p <= old {
         return Applied::Done(n, old - 1);
     }
@@ -198,15 +202,15 @@ fn step(
         (now (work .exit)) ⌝ }
 {
     match entry {
-        Entry::Add(e) => add(image, i, work, len, old, der::whole(message, e)),
+        Entry::Add(e) => add(image, i, work, len, old, der::encoding(message, e)),
         Entry::AddCertificate => Applied::Failed(Status::UNSUPPORTED_TRUST_ANCHOR_FORMAT),
-        Entry::Remove(e) => remove(image, i, work, len, old, der::whole(message, e)),
+        Entry::Remove(e) => remove(image, i, work, len, old, der::encoding(message, e)),
         Entry::Change => Applied::Failed(Status::IMPROPER_TA_CHANGE),
     }
 }
 
 fn code_of(done: Applied) -> u8
-    ensures { λ r. ⌜ r ≡ statusOf done .number ⌝ }
+    ensures { λ r. ⌜ r ≡ appliedStatus done .number ⌝ }
 {
     match done {
         Applied::Done(_, _) => 0,
@@ -299,9 +303,9 @@ fn enter_all(
 }
 
 // Sets the number of the anchor whose record stands at place p, if it has the identifier.
-fn stamp_at(work: &mut [u8], len: usize, p: usize, id: &[u8], n: u64)
-    requires { ⌜ Stampable (now work) len p n ⌝ }
-    ensures { λ r. ⌜ Stamps (now (work .entry)) len p (now (id .entry)) n (now (work .exit)) ⌝ }
+fn number_at(work: &mut [u8], len: usize, p: usize, id: &[u8], n: u64)
+    requires { ⌜ CanNumber (now work) len p n ⌝ }
+    ensures { λ r. ⌜ NumbersAt (now (work .entry)) len p (now (id .entry)) n (now (work .exit)) ⌝ }
 {
     if !octets::equal(store::identifier_of(store::record_at(&work[..len], p)), id) {
         return;
@@ -309,40 +313,40 @@ fn stamp_at(work: &mut [u8], len: usize, p: usize, id: &[u8], n: u64)
     edit::set_number(work, p, n);
 }
 
-// An entry of tampSeqNumbers: the anchors behind the old ones were appended by this message.
-fn stamp(work: &mut [u8], len: usize, old: usize, id: &[u8], n: u64)
+// An entry of tampSeqNumbers: the anchors after the old ones were appended by this message.
+fn number_new(work: &mut [u8], len: usize, old: usize, id: &[u8], n: u64)
     requires { ⌜ ScratchBoth (now work) len old × (n ≤ maxNumber) ⌝ }
-    ensures { λ r. ⌜ Renumbers (map (stamped (now (id .entry), n))) (now (work .entry)) len old (now (work .exit)) ⌝ }
+    ensures { λ r. ⌜ Renumbers (map (withSeqNumber (now (id .entry), n))) (now (work .entry)) len old (now (work .exit)) ⌝ }
 {
     let count = store::anchor_count(&work[..len]);
     let mut j = old + 1;
     let mut p = store::record_place(&work[..len], j);
     while j < count {
-        stamp_at(work, len, p, id, n);
+        number_at(work, len, p, id, n);
         p = store::record_end(&work[..len], p);
         j += 1;
     }
 }
 
 // "Then tampSeqNumbers in order".
-fn stamp_all(message: &[u8], q: Request, work: &mut [u8], len: usize, old: usize)
+fn number_all(message: &[u8], q: Request, work: &mut [u8], len: usize, old: usize)
     requires { ⌜ Numerable (now message) q (now work) len old ⌝ }
-    ensures { λ r. ⌜ Renumbers (allStamped (seqNumbersIn (now (message .entry)) (q .body))) (now (work .entry)) len old (now (work .exit)) ⌝ }
+    ensures { λ r. ⌜ Renumbers (withSeqNumbers (seqNumbersIn (now (message .entry)) (q .body))) (now (work .entry)) len old (now (work .exit)) ⌝ }
 {
-    let list = der::field(message, q.body, 0xA2);
+    let list = der::field(message, q.body, der::CONSTRUCTED_2);
     let stop = list.stop;
     let mut at = list.start;
     while at < stop {
         let e = der::element_at(message, at, stop);
-        let id = der::contents(message, der::field(message, e, 0x04));
-        let n = message::number_in(message, der::field(message, e, 0x02));
-        stamp(work, len, old, id, n);
+        let id = der::contents(message, der::field(message, e, der::OCTET_STRING));
+        let n = message::number_in(message, der::field(message, e, der::INTEGER));
+        number_new(work, len, old, id, n);
         at = der::next(e, stop);
     }
 }
 
-// An accepted Update of at most 16 entries, on a scratch that holds the store with the signer's number: the store behind it, a status octet for each entry.
-// Gives the length of the image. What stands behind the image in `work` is free.
+// An accepted Update of at most 16 entries, on a scratch that holds the store with the signer's number: the store after it, a status octet for each entry.
+// Gives the length of the image. What stands after the image in `work` is free.
 pub fn update(
     message: &[u8],
     q: Request,
@@ -367,19 +371,19 @@ pub fn update(
 {
     let m = enter_all(message, q, image, i, work, len, codes);
     let end = m.len;
-    stamp_all(message, q, work, end, m.old);
+    number_all(message, q, work, end, m.old);
     end
 }
 
 // Some OID of the list is over 32 octets.
 fn has_long(s: &[u8], list: Element) -> bool
-    ensures { λ r. ⌜ r ≡ anyOf (λ c. ltb maxName (length c)) (oidsFrom (now (s .entry)) (list .stop) (list .start)) ⌝ }
+    ensures { λ r. ⌜ r ≡ anyOf (λ c. ltb maxNameOctets (length c)) (oidsFrom (now (s .entry)) (list .stop) (list .start)) ⌝ }
 {
     let stop = list.stop;
     let mut i = list.start;
     while i < stop {
         let e = der::element_at(s, i, stop);
-        if octets::MAX_NAME < der::contents(s, e).len() {
+        if octets::MAX_NAME_OCTETS < der::contents(s, e).len() {
             return true;
         }
         i = der::next(e, stop);
@@ -429,7 +433,7 @@ fn keep_names(message: &[u8], removals: Element, image: &[u8], names: &mut [u8])
         × Section
         (now (names .exit))
         r
-        (keep (λ c. not (member c (oidsFrom (now (message .entry)) (removals .stop) (removals .start)))) (communitiesOf (now (image .entry)))) ⌝ }
+        (filter (λ c. not (member c (oidsFrom (now (message .entry)) (removals .stop) (removals .start)))) (communitiesOf (now (image .entry)))) ⌝ }
 {
     let octets = store::community_octets(image);
     let mut left = store::community_count(image);
@@ -445,9 +449,9 @@ fn keep_names(message: &[u8], removals: Element, image: &[u8], names: &mut [u8])
 
 // A remove list that is present and empty: "all community identifiers MUST be removed" (RFC 5934, 4.7).
 fn clears(removals: Element) -> bool
-    ensures { λ r. ⌜ r ≡ removals .good && leb (removals .stop) (removals .start) ⌝ }
+    ensures { λ r. ⌜ r ≡ removals .valid && leb (removals .stop) (removals .start) ⌝ }
 {
-    if removals.good {
+    if removals.valid {
         return removals.stop <= removals.start;
     }
     false
@@ -462,7 +466,7 @@ fn after_removals(message: &[u8], removals: Element, image: &[u8], names: &mut [
         (now (names .exit))
         r
         (afterRemovals
-        (removals .good)
+        (removals .valid)
         (oidsFrom (now (message .entry)) (removals .stop) (removals .start))
         (communitiesOf (now (image .entry)))) ⌝ }
 {
@@ -487,7 +491,7 @@ fn add_name(names: &mut [u8], len: usize, kept: usize, name: &[u8]) -> Grown
     Grown::To(join(names, len, name))
 }
 
-// The additions behind the section: "present ones pass".
+// The additions after the section: "present ones pass".
 fn add_names(message: &[u8], additions: Element, names: &mut [u8], len: usize) -> Grown
     requires { ⌜ AddableAll (oidsFrom (now message) (additions .stop) (additions .start)) (now names) len ⌝ }
     ensures { λ r.
@@ -520,21 +524,21 @@ fn has_repeat(s: &[u8], removals: Element, additions: Element) -> bool
 }
 
 // Removals, then additions, unless over 16 would remain.
-fn put_communities(
+fn update_communities(
     message: &[u8],
     removals: Element,
     additions: Element,
     work: &mut [u8],
     len: usize,
 ) -> Communities
-    requires { ⌜ Puttable
+    requires { ⌜ CanUpdate
         (oidsFrom (now message) (removals .stop) (removals .start))
         (oidsFrom (now message) (additions .stop) (additions .start))
         (now work)
         len ⌝ }
     ensures { λ r.
-        ⌜ Puts
-        (removals .good)
+        ⌜ UpdatesCommunities
+        (removals .valid)
         (oidsFrom (now (message .entry)) (removals .stop) (removals .start))
         (oidsFrom (now (message .entry)) (additions .stop) (additions .start))
         (now (work .entry))
@@ -559,14 +563,14 @@ fn put_communities(
     }
 }
 
-// An accepted Community Update, on a scratch that holds the store with the signer's number: its status, and the store behind it.
+// An accepted Community Update, on a scratch that holds the store with the signer's number: its status, and the store after it.
 pub fn community_update(message: &[u8], q: Request, work: &mut [u8], len: usize) -> Communities
     requires { ⌜ CommunityReady (now message) q (now work) len ⌝ }
     ensures { λ r. ⌜ CommunityDone (now (message .entry)) q (now (work .entry)) len r (now (work .exit)) ⌝ }
 {
     let updates = message::updates_in(message, q.body, q.msgref);
-    let removals = der::field(message, updates, 0xA1);
-    let additions = der::field(message, updates, 0xA2);
+    let removals = der::field(message, updates, der::CONSTRUCTED_1);
+    let additions = der::field(message, updates, der::CONSTRUCTED_2);
     if has_repeat(message, removals, additions) {
         return Communities {
             status: Status::COMMUNITY_UPDATE_FAILED,
@@ -585,5 +589,5 @@ pub fn community_update(message: &[u8], q: Request, work: &mut [u8], len: usize)
             len: len,
         };
     }
-    put_communities(message, removals, additions, work, len)
+    update_communities(message, removals, additions, work, len)
 }

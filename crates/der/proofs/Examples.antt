@@ -13,7 +13,7 @@ use Rattle.der.specs.Contents.{integerOk, contentsOk}
 use Rattle.der.specs.Check.{sortedIn, der, spans}
 
 -- "81 7F is wrong, 81 80 right"
-shortest : (elementAt (4 ∷ 0x81 ∷ 0x7F ∷ replicate 127 0) 0 130 .good ≡ false) × (elementAt (4 ∷ 0x81 ∷ 0x80 ∷ replicate 128 0) 0 131 .good ≡ true)
+shortest : (elementAt (4 ∷ 0x81 ∷ 0x7F ∷ replicate 127 0) 0 130 .valid ≡ false) × (elementAt (4 ∷ 0x81 ∷ 0x80 ∷ replicate 128 0) 0 131 .valid ≡ true)
 unfolding elementAt headed lengthShortest lengthAt numberFrom
 shortest = (refl, refl)
 

@@ -12,8 +12,8 @@ use Rattle.der.specs.declared.Fit.{Fit}
 use Rattle.der.specs.declared.Fit.the-variants.{Fits, Breaks}
 use Rattle.der.specs.Element.{elementAt, nextAt, elements}
 use Rattle.der.specs.Fit.{andThen, held, eachFrom, each}
-use Rattle.der.proofs.Elements.{good-within, elements-end, elements-broken, elements-turn}
-use Rattle.der.proofs.Runs.{next-good, run-turn}
+use Rattle.der.proofs.Elements.{valid-within, elements-end, elements-broken, elements-turn}
+use Rattle.der.proofs.Runs.{next-valid, run-turn}
 
 pub then-fits : {f : Fit} (g : Fit) → f ≡ Fits → andThen f g ≡ g
 unfolding andThen
@@ -39,7 +39,7 @@ module _ (judge : Element → Element → Fit) (s : List ℕ) (at stop : ℕ) wh
       let e = elementAt s at stop in
       by-test (ltb at stop)
       (λ t.
-      by-test (e .good)
+      by-test (e .valid)
       (λ g. rw (elements-turn s at stop refl g))
       (λ g. rw (elements-broken s at stop refl (ltb-true at stop t) g)))
       (λ t. rw (elements-end s at stop (ltb-false at stop t)))
@@ -51,32 +51,32 @@ module _ (judge : Element → Element → Fit) (s : List ℕ) (at stop : ℕ) wh
   module _ (former : Element) {e : Element} (q : e ≡ elementAt s at stop) where
     pub each-step : at < stop → {n : ℕ} → n ≡ nextAt e stop
         → eachFrom judge former (elements s at stop)
-        ≡ andThen (andThen (held (e .at) (e .good)) (judge former e)) (eachFrom judge e (elements s n stop))
+        ≡ andThen (andThen (held (e .at) (e .valid)) (judge former e)) (eachFrom judge e (elements s n stop))
     unfolding eachFrom
     each-step l m = ap (eachFrom judge former) (run-turn s at stop q l m)
 
-    pub each-broken : at < stop → e .good ≡ false → eachFrom judge former (elements s at stop) ≡ Breaks (e .at)
+    pub each-broken : at < stop → e .valid ≡ false → eachFrom judge former (elements s at stop) ≡ Breaks (e .at)
     each-broken l g = each-step l refl ∙ then-breaks _ (then-breaks _ (held-breaks (e .at) g))
 
-    each-good : e .good ≡ true
+    each-valid : e .valid ≡ true
         → eachFrom judge former (elements s at stop) ≡ andThen (judge former e) (eachFrom judge e (elements s (e .stop) stop))
-    each-good g =
-        let w = good-within s at stop q g in
-        each-step (omega arith) (sym (next-good e stop g)) ∙ ap (λ (f : Fit). andThen f (eachFrom judge e (elements s (e .stop) stop))) (then-fits _ (held-fits (e .at) g))
+    each-valid g =
+        let w = valid-within s at stop q g in
+        each-step (omega arith) (sym (next-valid e stop g)) ∙ ap (λ (f : Fit). andThen f (eachFrom judge e (elements s (e .stop) stop))) (then-fits _ (held-fits (e .at) g))
 
-    pub each-breaks : {o : ℕ} → e .good ≡ true → judge former e ≡ Breaks o → eachFrom judge former (elements s at stop) ≡ Breaks o
-    each-breaks g j = each-good g ∙ then-breaks _ j
+    pub each-breaks : {o : ℕ} → e .valid ≡ true → judge former e ≡ Breaks o → eachFrom judge former (elements s at stop) ≡ Breaks o
+    each-breaks g j = each-valid g ∙ then-breaks _ j
 
-    pub each-turn : e .good ≡ true → judge former e ≡ Fits
+    pub each-turn : e .valid ≡ true → judge former e ≡ Fits
         → eachFrom judge former (elements s at stop) ≡ eachFrom judge e (elements s (e .stop) stop)
-    each-turn g j = each-good g ∙ then-fits _ j
+    each-turn g j = each-valid g ∙ then-fits _ j
 
 then-assoc : (f g h : Fit) → andThen (andThen f g) h ≡ andThen f (andThen g h)
 unfolding andThen
 then-assoc Fits g h = refl
 then-assoc (Breaks o) g h = refl
 
--- a loop over a run in which each element is read by f and then tested behind the one before it by p; its laws have the premises of those in Loops
+-- a loop over a run in which each element is read by f and then tested after the one before it by p; its laws have the premises of those in Loops
 module _ (f : Element → Fit) (p : Element → Element → Bool) where
   abbrev pub judgeBy : Element → Element → Fit
   judgeBy former e = andThen (f e) (held (e .at) (p former e))
@@ -85,13 +85,13 @@ module _ (f : Element → Fit) (p : Element → Element → Bool) where
     pub each-fits : stop ≤ at → Fits ≡ x
     each-fits h = sym (each-end judgeBy s at stop former h) ∙ rest
 
-    module _ (l : at < stop) {e : Element} (q : e ≡ elementAt s at stop) {r : Fit} (h : r ≡ andThen (held (e .at) (e .good)) (f e)) where
+    module _ (l : at < stop) {e : Element} (q : e ≡ elementAt s at stop) {r : Fit} (h : r ≡ andThen (held (e .at) (e .valid)) (f e)) where
       one : {n : ℕ} → n ≡ nextAt e stop → x ≡ andThen (andThen r (held (e .at) (p former e))) (eachFrom judgeBy e (elements s n stop))
       one {n} m =
           sym rest
           ∙ each-step judgeBy s at stop former q l m
           ∙ ap (λ (y : Fit). andThen y (eachFrom judgeBy e (elements s n stop)))
-          (sym (then-assoc (held (e .at) (e .good)) (f e) (held (e .at) (p former e))) ∙ ap (λ (y : Fit). andThen y (held (e .at) (p former e))) (sym h))
+          (sym (then-assoc (held (e .at) (e .valid)) (f e) (held (e .at) (p former e))) ∙ ap (λ (y : Fit). andThen y (held (e .at) (p former e))) (sym h))
 
       pub each-fails : {o : ℕ} → r ≡ Breaks o → Breaks o ≡ x
       each-fails k = sym (one refl ∙ then-breaks _ (then-breaks _ k))

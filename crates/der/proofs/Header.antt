@@ -9,13 +9,13 @@ use lib.ListN.{length}
 use lib.Seq.{drop-cons}
 use lib.Dec.{ltb, leb, eqb}
 use borrow.Author.Tests.{ltb-true, ltb-false, leb-true, leb-false, eqb-false, not-true, lt-ltb, le-ltb, le-leb, lt-leb, eq-eqb, ne-eqb}
-use Rattle.octets.specs.Octets.{octet, part}
+use Rattle.octets.specs.Octets.{octet, slice}
 use Rattle.octets.specs.Number.{numberFrom}
 use Rattle.octets.proofs.Lists.{by-test, both}
-use Rattle.octets.proofs.Parts.{part-none}
+use Rattle.octets.proofs.Parts.{slice-none}
 use Rattle.octets.proofs.Number.{number-grows}
 use Rattle.der.specs.declared.Length.the-variants.{Of, Beyond}
-use Rattle.der.specs.Element.{absent, lengthOctetsBehind, lengthAt, lengthShortest, contentsAt, lengthIn, headed, elementAt}
+use Rattle.der.specs.Element.{absent, lengthOctetsAfter, lengthAt, lengthShortest, contentsAt, lengthIn, headed, elementAt}
 use Rattle.der.proofs.Bools.{and-false}
 
 pub record Header (s : List ℕ) (at stop : ℕ) : Type 0 where
@@ -60,7 +60,7 @@ module _ (s : List ℕ) (at stop : ℕ) where
   header-or-not f g = by-test (headed s at stop) (λ e. f (header-is e)) (λ e. g (λ h. true≢false (sym (header-holds h) ∙ e)))
 
   pub element-is : Header s at stop
-      → elementAt s at stop ≡ record { good = true; tag = octet s at; at = at; start = contentsAt s at; stop = contentsAt s at + lengthAt s at }
+      → elementAt s at stop ≡ record { valid = true; tag = octet s at; at = at; start = contentsAt s at; stop = contentsAt s at + lengthAt s at }
   unfolding elementAt
   element-is h = rw (header-holds h, elementAt)
 
@@ -73,31 +73,31 @@ module _ (s : List ℕ) (at stop : ℕ) where
 module _ (s : List ℕ) (at n : ℕ) where
   -- the short form is the long form of no further octets
   pub length-from : (octet s (at + 1) < 128 → n ≡ octet s (at + 1)) → (128 ≤ octet s (at + 1) → n ≡ 0)
-      → numberFrom n (part s (at + 2) (contentsAt s at)) ≡ lengthAt s at
+      → numberFrom n (slice s (at + 2) (contentsAt s at)) ≡ lengthAt s at
   unfolding lengthAt numberFrom
   length-from short long =
       by-test (ltb (octet s (at + 1)) 128)
       (λ e.
       let l = ltb-true (octet s (at + 1)) 128 e in
-      rw (part-none s (at + 2) (contentsAt s at) (omega arith), e, lengthAt) (short l))
+      rw (slice-none s (at + 2) (contentsAt s at) (omega arith), e, lengthAt) (short l))
       (λ e. rw (e, lengthAt, long (ltb-false (octet s (at + 1)) 128 e)))
 
 -- the octets from i on up to e, the next one in front
-pub part-turn : (s : List ℕ) (i e n : ℕ) → i < e → e ≤ length s → numberFrom n (part s i e) ≡ numberFrom (n * 256 + octet s i) (part s (i + 1) e)
+pub slice-turn : (s : List ℕ) (i e n : ℕ) → i < e → e ≤ length s → numberFrom n (slice s i e) ≡ numberFrom (n * 256 + octet s i) (slice s (i + 1) e)
 unfolding numberFrom
-part-turn s i e n l h =
+slice-turn s i e n l h =
     let q : e - i ≡ suc (e - (i + 1)) = omega arith in
     let m : i < length s = omega arith in
     rw (q, drop-cons s i 0 m, add-one)
 
--- the length octets read up to i: none yet, or the first and some behind it
+-- the length octets read up to i: none yet, or the first and some after it
 pub record ReadTo (s : List ℕ) (at stop start n i : ℕ) (first : Bool) : Type 0 where
   pub from : at + 1 ≤ i
   pub upto : i ≤ start
   pub begins : at + 2 ≤ start
   pub ends : start ≤ stop
   pub none : first ≡ true → (i ≡ at + 1) × ((start ≡ at + 2) × (n ≡ 0))
-  pub some : first ≡ false → (at + 1 < i) × ((start ≡ contentsAt s at) × (numberFrom n (part s i start) ≡ lengthAt s at))
+  pub some : first ≡ false → (at + 1 < i) × ((start ≡ contentsAt s at) × (numberFrom n (slice s i start) ≡ lengthAt s at))
 
 module _ (s : List ℕ) (at stop : ℕ) where
   pub read-none : at + 2 ≤ stop → ReadTo s at stop (at + 2) 0 (at + 1) true
@@ -113,7 +113,7 @@ module _ (s : List ℕ) (at stop : ℕ) where
 
   -- the first octet is the length, or says where the contents begin
   pub read-first : {start n i : ℕ} → i ≡ at + 1 → (octet s i < 128 → n ≡ octet s i) → (128 ≤ octet s i → n ≡ 0)
-      → start ≡ at + 2 + lengthOctetsBehind (octet s i) → start ≤ stop → ReadTo s at stop start n (i + 1) false
+      → start ≡ at + 2 + lengthOctetsAfter (octet s i) → start ≤ stop → ReadTo s at stop start n (i + 1) false
   read-first {start} {n} {i} f short long e l =
       let p : i + 1 ≡ at + 2 = omega arith in
       let b : start ≡ contentsAt s at = rw f at e in
@@ -135,7 +135,7 @@ module _ (s : List ℕ) (at stop : ℕ) where
           begins = r .begins;
           ends = r .ends;
           none = λ e. absurd (false≢true e);
-          some = λ k. (omega (arith, r .from), (r .some f .1 .0, sym (part-turn s i start n l (omega arith)) ∙ r .some f .1 .1));
+          some = λ k. (omega (arith, r .from), (r .some f .1 .0, sym (slice-turn s i start n l (omega arith)) ∙ r .some f .1 .1));
         }
 
     -- a digit more, and the length would pass the window's end
@@ -145,8 +145,8 @@ module _ (s : List ℕ) (at stop : ℕ) where
           arith,
           r .some f .1 .0,
           r .some f .1 .1,
-          part-turn s i start n l (omega arith),
-          number-grows (n * 256 + octet s i) (part s (i + 1) start),
+          slice-turn s i start n l (omega arith),
+          number-grows (n * 256 + octet s i) (slice s (i + 1) start),
         )
 
     pub read-all : start ≤ i → (start ≡ contentsAt s at) × (n ≡ lengthAt s at)
@@ -154,7 +154,7 @@ module _ (s : List ℕ) (at stop : ℕ) where
     read-all l =
         by-test first
         (λ f. absurd (omega (arith, r .none f .0, r .begins)))
-        (λ f. (r .some f .1 .0, sym (ap (numberFrom n) (part-none s i start l)) ∙ r .some f .1 .1))
+        (λ f. (r .some f .1 .0, sym (ap (numberFrom n) (slice-none s i start l)) ∙ r .some f .1 .1))
 
 -- what the length octets say in a window
 
@@ -196,7 +196,7 @@ module _ (s : List ℕ) (at : ℕ) where
       let l : 128 ≤ octet s (at + 1) = omega arith in
       let n : lengthAt s at ≡ 0 =
       sym (length-from s at 0 (λ l. absurd (omega arith)) (λ l. refl))
-      ∙ ap (numberFrom 0) (part-none s (at + 2) (contentsAt s at) (omega arith))
+      ∙ ap (numberFrom 0) (slice-none s (at + 2) (contentsAt s at) (omega arith))
       in
       rw (le-ltb _ _ l, n, lengthShortest) (and-false (not (eqb (octet s (at + 2)) 0)))
 

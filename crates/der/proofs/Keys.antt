@@ -11,7 +11,7 @@ use Rattle.der.specs.declared.Compared.{Compared}
 use Rattle.der.specs.declared.Found.{Found}
 use Rattle.der.specs.declared.Found.the-variants.{At, Nowhere}
 use Rattle.der.specs.Element.{elementAt, nextAt, elements}
-use Rattle.der.specs.Keys.{keyOf, keysFrom, firstWith}
+use Rattle.der.specs.Keys.{keyOf, firstWith}
 use Rattle.der.proofs.Loops.{loop-end, loop-turn}
 
 module _ (by : Compared) (s k : List ℕ) where

@@ -1,7 +1,6 @@
 -- Loops over a run, `while at < stop { let e = element_at(s, at, stop); ..; at = next(e, stop); }`. Their invariant `rest` is that what is left gives x, as the
 -- whole does; a law has what the calls of a turn promise as premises, in the order in which they come.
 use Prim.Native.Nat.{ℕ, _≤_, _<_}
-use native.Mathlib.Omega.{arith}
 use mathlib.Core.Bool.{Bool, true, false, not}
 use mathlib.Core.List.{List, [], _∷_}
 use mathlib.Core.Path.{_≡_, refl, sym, ap, _∙_}
@@ -11,8 +10,8 @@ use Rattle.octets.specs.Lists.{allOf, anyOf}
 use Rattle.der.specs.declared.Element.{Element}
 use Rattle.der.specs.Element.{absent, elementAt, nextAt, elements, withTag}
 use Rattle.der.proofs.Bools.{on-true, on-false}
-use Rattle.der.proofs.Elements.{good-within, elements-end}
-use Rattle.der.proofs.Runs.{next-good, next-broken, run-turn}
+use Rattle.der.proofs.Elements.{elements-end}
+use Rattle.der.proofs.Runs.{run-turn}
 
 -- any reading g of the run
 module _ {A : Type 0} (g : List Element → A) (s : List ℕ) (at stop : ℕ) {x : A} (rest : g (elements s at stop) ≡ x) where
@@ -66,23 +65,3 @@ module _ (t : ℕ) (s : List ℕ) (at stop : ℕ) {x : Element} (rest : withTag 
     pub tag-later : (e .tag ≡ t → ⊥) → {n : ℕ} → n ≡ nextAt e stop → withTag t (elements s n stop) ≡ x
     unfolding withTag
     tag-later h m = sym (on-false (eqb (e .tag) t) e _ (ne-eqb _ _ h)) ∙ loop-turn (withTag t) s at stop rest l q m
-
--- the same for a loop that goes on at the end of a good element and leaves at a bad one
-module _ (p : Element → Bool) (s : List ℕ) (at stop : ℕ) where
-  pub any-end : stop ≤ at → anyOf p (elements s at stop) ≡ false
-  any-end h = sym (any-none p s at stop refl h)
-
-  module _ {e : Element} (q : e ≡ elementAt s at stop) where
-    pub any-found : at < stop → p e ≡ true → anyOf p (elements s at stop) ≡ true
-    any-found l h = sym (any-here p s at stop refl l q refl h)
-
-    pub any-broken : at < stop → e .good ≡ false → p e ≡ false → anyOf p (elements s at stop) ≡ false
-    any-broken l g h = sym (any-later p s at stop refl l q refl h (sym (next-broken e stop g))) ∙ any-end′ stop
-      where
-        any-end′ : (i : ℕ) → anyOf p (elements s i i) ≡ false
-        any-end′ i = sym (any-none p s i i refl (omega arith))
-
-    pub any-turn : e .good ≡ true → p e ≡ false → anyOf p (elements s at stop) ≡ anyOf p (elements s (e .stop) stop)
-    any-turn g h =
-        let w = good-within s at stop q g in
-        sym (any-later p s at stop refl (omega arith) q refl h (sym (next-good e stop g)))

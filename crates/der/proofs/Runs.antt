@@ -9,22 +9,22 @@ use Rattle.octets.proofs.Lists.{by-test}
 use Rattle.der.specs.declared.Element.{Element}
 use Rattle.der.specs.Element.{lengthAt, contentsAt, elementAt, nextAt, elements}
 use Rattle.der.proofs.Header.{header-or-not, element-is, element-absent}
-use Rattle.der.proofs.Elements.{good-within, elements-end, elements-broken, elements-turn}
+use Rattle.der.proofs.Elements.{valid-within, elements-end, elements-broken, elements-turn}
 
-pub next-good : (e : Element) (stop : ℕ) → e .good ≡ true → nextAt e stop ≡ e .stop
+pub next-valid : (e : Element) (stop : ℕ) → e .valid ≡ true → nextAt e stop ≡ e .stop
 unfolding nextAt
-next-good e stop g = rw g
+next-valid e stop g = rw g
 
-pub next-broken : (e : Element) (stop : ℕ) → e .good ≡ false → nextAt e stop ≡ stop
+pub next-broken : (e : Element) (stop : ℕ) → e .valid ≡ false → nextAt e stop ≡ stop
 unfolding nextAt
 next-broken e stop g = rw g
 
 module _ (s : List ℕ) (at stop : ℕ) {e : Element} (q : e ≡ elementAt s at stop) (l : at < stop) where
-  -- the run is its first element and the run behind it
+  -- the run is its first element and the run after it
   pub run-turn : {n : ℕ} → n ≡ nextAt e stop → elements s at stop ≡ e ∷ elements s n stop
   run-turn {n} m =
-      by-test (e .good)
-      (λ g. elements-turn s at stop q g ∙ ap (λ (k : ℕ). e ∷ elements s k stop) (sym (m ∙ next-good e stop g)))
+      by-test (e .valid)
+      (λ g. elements-turn s at stop q g ∙ ap (λ (k : ℕ). e ∷ elements s k stop) (sym (m ∙ next-valid e stop g)))
       (λ g.
       let b : n ≡ stop = m ∙ next-broken e stop g in
       elements-broken s at stop q l g ∙ ap (λ (r : List Element). e ∷ r) (sym (elements-end s n stop (omega arith))))
@@ -32,10 +32,10 @@ module _ (s : List ℕ) (at stop : ℕ) {e : Element} (q : e ≡ elementAt s at 
   -- which is shorter
   pub run-on : {n : ℕ} → n ≡ nextAt e stop → (at < n) × (n ≤ stop)
   run-on {n} m =
-      by-test (e .good)
+      by-test (e .valid)
       (λ g.
-      let b : n ≡ e .stop = m ∙ next-good e stop g in
-      let w = good-within s at stop q g in
+      let b : n ≡ e .stop = m ∙ next-valid e stop g in
+      let w = valid-within s at stop q g in
       (omega arith, omega arith))
       (λ g.
       let b : n ≡ stop = m ∙ next-broken e stop g in
@@ -46,7 +46,7 @@ pub run-less : (s : List ℕ) (at stop n : ℕ) {e : Element} → e ≡ elementA
 run-less s at stop n q l m = omega (arith, run-on s at stop q l m)
 
 -- an element stands alike in each window that it does not pass
-pub element-window : (s : List ℕ) (at stop w : ℕ) {e : Element} → e ≡ elementAt s at stop → e .good ≡ true → e .stop ≤ w → w ≤ length s → elementAt s at w ≡ e
+pub element-window : (s : List ℕ) (at stop w : ℕ) {e : Element} → e ≡ elementAt s at stop → e .valid ≡ true → e .stop ≤ w → w ≤ length s → elementAt s at w ≡ e
 element-window s at stop w {e} q g h l =
     header-or-not s at stop
     (λ k.
@@ -55,7 +55,7 @@ element-window s at stop w {e} q g h l =
     element-is s at w
     (record { within = l; room = omega (arith, b); low-tag = k .low-tag; begins = omega (arith, b); shortest = k .shortest; ends = b })
     ∙ sym i)
-    (λ n. absurd (true≢false (sym g ∙ ap (λ (x : Element). x .good) (q ∙ element-absent s at stop n))))
+    (λ n. absurd (true≢false (sym g ∙ ap (λ (x : Element). x .valid) (q ∙ element-absent s at stop n))))
 
 -- a run goes from one place to the other: each run that goes on from there begins with it
 pub record Reached (s : List ℕ) (from to : ℕ) : Type 0 where
@@ -69,16 +69,16 @@ reached-none s at =
       onward = omega arith;
     }
 
-module _ {s : List ℕ} {from to : ℕ} (r : Reached s from to) (stop : ℕ) {e : Element} (q : e ≡ elementAt s to stop) (g : e .good ≡ true) where
+module _ {s : List ℕ} {from to : ℕ} (r : Reached s from to) (stop : ℕ) {e : Element} (q : e ≡ elementAt s to stop) (g : e .valid ≡ true) where
   -- the run that goes on to w begins with that element
   pub reached-head : (w : ℕ) → e .stop ≤ w → w ≤ length s → elements s from w ≡ elements s from to ++ (e ∷ elements s (e .stop) w)
   reached-head w h l =
-      let b = good-within s to stop q g in
+      let b = valid-within s to stop q g in
       r .splits w (omega (arith, h, b)) l ∙ ap (λ (x : List Element). elements s from to ++ x) (elements-turn s to w (sym (element-window s to stop w q g h l)) g)
 
   pub reached-on : Reached s from (e .stop)
   reached-on =
-      let b = good-within s to stop q g in
+      let b = valid-within s to stop q g in
       record {
         splits =
             λ w h l.

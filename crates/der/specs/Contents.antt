@@ -20,7 +20,7 @@ unfoldable pub arcsOk : Bool → List ℕ → Bool
 arcsOk fresh [] = fresh
 arcsOk fresh (x ∷ s) = not (fresh && eqb x 128) && arcsOk (ltb x 128) s
 
--- an arc begins at the octet i: the first does, and one behind the last octet of another
+-- an arc begins at the octet i: the first does, and one after the last octet of another
 abbrev pub arcBegins : List ℕ → ℕ → Bool
 arcBegins o i = eqb i 0 || ltb (octet o (i - 1)) 128
 

@@ -5,7 +5,7 @@ use mathlib.Core.Bool.{Bool, true, false, not, _&&_, _||_}
 use mathlib.Core.List.{List, [], _∷_}
 use lib.ListN.{length}
 use lib.Dec.{leb, ltb, eqb}
-use Rattle.octets.specs.Octets.{octet, part}
+use Rattle.octets.specs.Octets.{octet, slice}
 use Rattle.octets.specs.Number.{number}
 use Rattle.der.specs.declared.Element.{Element}
 use Rattle.der.specs.declared.Length.{Length}
@@ -13,18 +13,18 @@ use Rattle.der.specs.declared.Length.the-variants.{Of, Beyond}
 
 -- no element: what stands at a place where the header breaks a rule, and (at 0) what a search gives that finds nothing
 abbrev pub absent : ℕ → Element
-absent at = record { good = false; tag = 0; at = at; start = at; stop = at }
+absent at = record { valid = false; tag = 0; at = at; start = at; stop = at }
 
--- X.690, 8.1.3: the first length octet is the length, or 128 and the number of length octets behind it
-abbrev pub lengthOctetsBehind : ℕ → ℕ
-lengthOctetsBehind first = first - 128
+-- X.690, 8.1.3: the first length octet is the length, or 128 and the number of length octets after it
+abbrev pub lengthOctetsAfter : ℕ → ℕ
+lengthOctetsAfter first = first - 128
 
 unfoldable pub lengthAt : List ℕ → ℕ → ℕ
 lengthAt s at =
     let first = octet s (at + 1) in
     elim (ltb first 128) [
       | true ↦ first
-      | false ↦ number (part s (at + 2) (at + 2 + lengthOctetsBehind first))
+      | false ↦ number (slice s (at + 2) (at + 2 + lengthOctetsAfter first))
     ]
 
 -- 01, DER: lengths are definite and shortest (81 7F is wrong, 81 80 right; 80 is the indefinite form, and would be the length 0 in no octets)
@@ -33,7 +33,7 @@ lengthShortest s at = ltb (octet s (at + 1)) 128 || (not (eqb (octet s (at + 2))
 
 -- where the contents begin
 abbrev pub contentsAt : List ℕ → ℕ → ℕ
-contentsAt s at = at + 2 + lengthOctetsBehind (octet s (at + 1))
+contentsAt s at = at + 2 + lengthOctetsAfter (octet s (at + 1))
 
 -- where the contents begin and how many octets they are, unless they pass the window's end
 unfoldable pub lengthIn : List ℕ → ℕ → ℕ → Length
@@ -55,33 +55,33 @@ headed s at stop =
 unfoldable pub elementAt : List ℕ → ℕ → ℕ → Element
 elementAt s at stop =
     elim (headed s at stop) [
-      | true ↦ record { good = true; tag = octet s at; at = at; start = contentsAt s at; stop = contentsAt s at + lengthAt s at }
+      | true ↦ record { valid = true; tag = octet s at; at = at; start = contentsAt s at; stop = contentsAt s at + lengthAt s at }
       | false ↦ absent at
     ]
 
--- where a run goes on behind e: nothing is read behind a header that breaks a rule
+-- where a run goes on after e: nothing is read after a header that breaks a rule
 unfoldable pub nextAt : Element → ℕ → ℕ
-nextAt e stop = elim (e .good) [ true ↦ e .stop | false ↦ stop ]
+nextAt e stop = elim (e .valid) [ true ↦ e .stop | false ↦ stop ]
 
--- the elements of a run, one behind the other from `at` on up to `stop`; one whose header breaks a rule is the last. (n bounds their number.)
+-- the elements of a run, one after the other from `at` on up to `stop`; one whose header breaks a rule is the last. (n bounds their number.)
 unfoldable pub elementsFrom : ℕ → List ℕ → ℕ → ℕ → List Element
 elementsFrom zero s at stop = []
 elementsFrom (suc n) s at stop =
     let e = elementAt s at stop in
     elim (ltb at stop) [
       | false ↦ []
-      | true ↦ elim (e .good) [ false ↦ e ∷ [] | true ↦ e ∷ elementsFrom n s (e .stop) stop ]
+      | true ↦ elim (e .valid) [ false ↦ e ∷ [] | true ↦ e ∷ elementsFrom n s (e .stop) stop ]
     ]
 
 unfoldable pub elements : List ℕ → ℕ → ℕ → List Element
 elements s at stop = elementsFrom (stop - at) s at stop
 
 -- the octets of an element: all of them, and its contents
-abbrev pub whole : List ℕ → Element → List ℕ
-whole s e = part s (e .at) (e .stop)
+abbrev pub encoding : List ℕ → Element → List ℕ
+encoding s e = slice s (e .at) (e .stop)
 
 abbrev pub contents : List ℕ → Element → List ℕ
-contents s e = part s (e .start) (e .stop)
+contents s e = slice s (e .start) (e .stop)
 
 -- the element that octets by themselves are
 abbrev pub root : List ℕ → Element
@@ -100,9 +100,9 @@ unfoldable pub withTag : ℕ → List Element → Element
 withTag t [] = absent 0
 withTag t (e ∷ es) = elim (eqb (e .tag) t) [ true ↦ e | false ↦ withTag t es ]
 
--- the first field with the tag in an element, and the first behind another field
+-- the first field with the tag in an element, and the first after another field
 abbrev pub field : ℕ → List ℕ → Element → Element
 field t s e = withTag t (inside s e)
 
-abbrev pub fieldBehind : ℕ → List ℕ → Element → Element → Element
-fieldBehind t s e f = withTag t (elements s (f .stop) (e .stop))
+abbrev pub fieldAfter : ℕ → List ℕ → Element → Element → Element
+fieldAfter t s e f = withTag t (elements s (f .stop) (e .stop))

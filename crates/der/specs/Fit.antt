@@ -23,7 +23,7 @@ kept (Breaks o) = false
 -- the elements of a run in turn, each by its header and then by a judge that is given the element before it too
 unfoldable pub eachFrom : (Element → Element → Fit) → Element → List Element → Fit
 eachFrom judge former [] = Fits
-eachFrom judge former (e ∷ es) = andThen (andThen (held (e .at) (e .good)) (judge former e)) (eachFrom judge e es)
+eachFrom judge former (e ∷ es) = andThen (andThen (held (e .at) (e .valid)) (judge former e)) (eachFrom judge e es)
 
 -- the first has itself before it
 unfoldable pub each : (Element → Element → Fit) → List Element → Fit

@@ -5,10 +5,10 @@ use mathlib.Core.List.{List, [], _∷_, map}
 use Rattle.octets.specs.Octets.{same}
 use Rattle.der.specs.declared.Element.{Element}
 use Rattle.der.specs.declared.Compared.{Compared}
-use Rattle.der.specs.declared.Compared.the-variants.{Types, Contents, Octets}
+use Rattle.der.specs.declared.Compared.the-variants.{Types, Contents, Encodings}
 use Rattle.der.specs.declared.Found.{Found}
 use Rattle.der.specs.declared.Found.the-variants.{At, Nowhere}
-use Rattle.der.specs.Element.{absent, elements, whole, contents, field}
+use Rattle.der.specs.Element.{absent, elements, encoding, contents, field}
 
 -- the type that stands in an element, the contents of its OID: extnID of an Extension, attrType of an Attribute or an AttrConstraint, contentType of an entry
 abbrev pub typeOf : List ℕ → Element → List ℕ
@@ -18,7 +18,7 @@ typeOf s e = contents s (field 0x06 s e)
 unfoldable pub keyOf : Compared → List ℕ → Element → List ℕ
 keyOf Types s e = typeOf s e
 keyOf Contents s e = contents s e
-keyOf Octets s e = whole s e
+keyOf Encodings s e = encoding s e
 
 -- the keys of a run of elements, and of the members of an element
 abbrev pub keysFrom : Compared → List ℕ → ℕ → ℕ → List (List ℕ)

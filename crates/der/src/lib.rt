@@ -5,23 +5,8 @@ ghost use mathlib.Core.Bool.{true, _&&_};
 ghost use lib.ListN.{length};
 ghost use lib.Dec.{eqb};
 ghost use Rattle.octets.specs.Octets.{octet, member, placed};
-ghost use Rattle.der.specs.Element.{
-  absent,
-  lengthAt,
-  lengthShortest,
-  contentsAt,
-  lengthIn,
-  elementAt,
-  nextAt,
-  elements,
-  whole as wholeOf,
-  contents as contentsOf,
-  inside,
-  constructed,
-  withTag,
-  field as fieldOf,
-  fieldBehind,
-};
+ghost use Rattle.der.specs.Element.{absent, lengthAt, lengthShortest, contentsAt, lengthIn, elementAt, nextAt, elements, encoding as encodingOf};
+ghost use Rattle.der.specs.Element.{contents as contentsOf, constructed, withTag, field as fieldOf, fieldAfter};
 ghost use Rattle.der.specs.Fit.{andThen, held, each};
 ghost use Rattle.der.specs.Contents.{integerOk, booleanOk, arcBegins, oidOk, contentsOk};
 ghost use Rattle.der.specs.Check.{sortedIn, der, spans as spansOf};
@@ -29,9 +14,9 @@ ghost use Rattle.der.specs.Keys.{typeOf, keyOf, keysFrom, firstWith};
 ghost use Rattle.der.specs.Write.{lengthOctets, header};
 
 // An element: its identifier octet, where it begins, and its contents, from start up to stop.
-// Where no element stands at a place, good is false, the tag is 0 and nothing is inside.
+// Where no element stands at a place, valid is false, the tag is 0 and nothing is inside.
 pub struct Element {
-    pub good: bool,
+    pub valid: bool,
     pub tag: u8,
     pub at: usize,
     pub start: usize,
@@ -54,21 +39,54 @@ pub enum Fit {
 pub enum Compared {
     Types,
     Contents,
-    Octets,
+    Encodings,
 }
 
-// An element that was looked for. (One whose header breaks a rule is an element of a run too, so `good` could not say that there is none.)
+// An element that was looked for. (One whose header breaks a rule is an element of a run too, so `valid` could not say that there is none.)
 pub enum Found {
     At(Element),
     Nowhere,
 }
+
+// Identifier octets (X.690, 8.1.2): the universal types, and context-specific tags, [n] primitive and [n] constructed.
+pub const BOOLEAN: u8 = 0x01;
+
+pub const INTEGER: u8 = 0x02;
+
+pub const OCTET_STRING: u8 = 0x04;
+
+pub const NULL: u8 = 0x05;
+
+pub const OBJECT_IDENTIFIER: u8 = 0x06;
+
+pub const ENUMERATED: u8 = 0x0A;
+
+pub const SEQUENCE: u8 = 0x30;
+
+pub const SET: u8 = 0x31;
+
+pub const CONTEXT_0: u8 = 0x80;
+
+pub const CONTEXT_1: u8 = 0x81;
+
+pub const CONTEXT_3: u8 = 0x83;
+
+pub const CONTEXT_4: u8 = 0x84;
+
+pub const CONSTRUCTED_0: u8 = 0xA0;
+
+pub const CONSTRUCTED_1: u8 = 0xA1;
+
+pub const CONSTRUCTED_2: u8 = 0xA2;
+
+pub const CONSTRUCTED_5: u8 = 0xA5;
 
 // No element: what stands where a header breaks a rule.
 pub fn no_element(at: usize) -> Element
     ensures { λ r. ⌜ r ≡ absent at ⌝ }
 {
     Element {
-        good: false,
+        valid: false,
         tag: 0,
         at: at,
         start: at,
@@ -76,7 +94,7 @@ pub fn no_element(at: usize) -> Element
     }
 }
 
-// The length octets of the element at a place, all of them in one loop: the first is the length or says how many stand behind it, each of those is a digit
+// The length octets of the element at a place, all of them in one loop: the first is the length or says how many stand after it, each of those is a digit
 // of the length. The loop stops before a length that passes the window's end could wrap. (With a flag for the first turn the compiler can tell it from the others.)
 fn length_at(s: &[u8], at: usize, stop: usize) -> Length
     requires { ⌜ (at + 2 ≤ stop) × (stop ≤ length (now s)) ⌝ }
@@ -154,7 +172,7 @@ pub fn element_at(s: &[u8], at: usize, stop: usize) -> Element
         return no_element(at);
     }
     Element {
-        good: true,
+        valid: true,
         tag: tag,
         at: at,
         start: start,
@@ -162,11 +180,11 @@ pub fn element_at(s: &[u8], at: usize, stop: usize) -> Element
     }
 }
 
-// Where a run goes on behind e: nothing is read behind a header that breaks a rule.
+// Where a run goes on after e: nothing is read after a header that breaks a rule.
 pub fn next(e: Element, stop: usize) -> usize
     ensures { λ r. ⌜ r ≡ nextAt e stop ⌝ }
 {
-    if e.good {
+    if e.valid {
         return e.stop;
     }
     stop
@@ -192,7 +210,7 @@ pub fn is_integer(o: &[u8]) -> bool
 }
 
 // BOOLEAN: 00 or FF.
-pub fn is_boolean(o: &[u8]) -> bool
+fn is_boolean(o: &[u8]) -> bool
     ensures { λ r. ⌜ r ≡ booleanOk (now (o .entry)) ⌝ }
 {
     if o.len() != 1 {
@@ -204,7 +222,7 @@ pub fn is_boolean(o: &[u8]) -> bool
     o[0] == 255
 }
 
-// An arc that begins with 80 is not shortest. One begins at the first octet, and behind the last octet of another.
+// An arc that begins with 80 is not shortest. One begins at the first octet, and after the last octet of another.
 fn is_padding(o: &[u8], i: usize) -> bool
     requires { ⌜ i < length (now o) ⌝ }
     ensures { λ r. ⌜ r ≡ arcBegins (now (o .entry)) i && eqb (octet (now (o .entry)) i) 128 ⌝ }
@@ -236,19 +254,19 @@ pub fn is_oid(o: &[u8]) -> bool
 }
 
 // What the contents o of a primitive element with this tag must be.
-pub fn contents_ok(tag: u8, o: &[u8]) -> bool
+fn contents_ok(tag: u8, o: &[u8]) -> bool
     ensures { λ r. ⌜ r ≡ contentsOk tag (now (o .entry)) ⌝ }
 {
-    if tag == 1 {
+    if tag == BOOLEAN {
         return is_boolean(o);
     }
-    if tag == 2 {
+    if tag == INTEGER {
         return is_integer(o);
     }
-    if tag == 10 {
+    if tag == ENUMERATED {
         return is_integer(o);
     }
-    if tag == 6 {
+    if tag == OBJECT_IDENTIFIER {
         return is_oid(o);
     }
     true
@@ -258,13 +276,13 @@ pub fn contents_ok(tag: u8, o: &[u8]) -> bool
 pub fn contents(s: &[u8], e: Element) -> &[u8]
     ensures { λ r. ⌜ now r ≡ contentsOf (now (s .entry)) e ⌝ }
 {
-    octets::part(s, e.start, e.stop)
+    octets::slice(s, e.start, e.stop)
 }
 
-pub fn whole(s: &[u8], e: Element) -> &[u8]
-    ensures { λ r. ⌜ now r ≡ wholeOf (now (s .entry)) e ⌝ }
+pub fn encoding(s: &[u8], e: Element) -> &[u8]
+    ensures { λ r. ⌜ now r ≡ encodingOf (now (s .entry)) e ⌝ }
 {
-    octets::part(s, e.at, e.stop)
+    octets::slice(s, e.at, e.stop)
 }
 
 pub fn is_constructed(tag: u8) -> bool
@@ -283,21 +301,21 @@ fn check_contents(s: &[u8], e: Element) -> Fit
     Fit::Breaks(e.at)
 }
 
-// In an element with this tag, a SET or not: the member e stands in order behind the one before it.
+// In an element with this tag, a SET or not: the member e stands in order after the one before it.
 fn is_sorted(s: &[u8], tag: u8, former: Element, e: Element) -> bool
     ensures { λ r. ⌜ r ≡ sortedIn tag (now (s .entry)) former e ⌝ }
 {
-    if tag != 49 {
+    if tag != SET {
         return true;
     }
-    octets::in_order(whole(s, former), whole(s, e))
+    octets::in_order(encoding(s, former), encoding(s, e))
 }
 
 // The element e, and all in it, with this depth left for it.
 pub fn check_element(s: &[u8], e: Element, depth: usize) -> Fit
     ensures { λ r. ⌜ r ≡ der depth (now (s .entry)) e ⌝ }
 {
-    if !e.good {
+    if !e.valid {
         return Fit::Breaks(e.at);
     }
     if depth == 0 {
@@ -333,7 +351,7 @@ pub fn check_run(s: &[u8], tag: u8, start: usize, stop: usize, depth: usize) -> 
     Fit::Fits
 }
 
-// The octets from at up to stop are one element with this depth. Octets behind it are charged to the first of them; where there is no octet at all,
+// The octets from at up to stop are one element with this depth. Octets after it are charged to the first of them; where there is no octet at all,
 // the element at `outer` is charged.
 pub fn spans(s: &[u8], at: usize, stop: usize, outer: usize, depth: usize) -> Fit
     ensures { λ r. ⌜ r ≡ spansOf depth (now (s .entry)) at stop outer ⌝ }
@@ -352,7 +370,7 @@ pub fn spans(s: &[u8], at: usize, stop: usize, outer: usize, depth: usize) -> Fi
 }
 
 // The first element with the tag in the run from at up to stop. One whose header breaks a rule is the last, and has the tag 0.
-pub fn with_tag(s: &[u8], at: usize, stop: usize, tag: u8) -> Element
+fn with_tag(s: &[u8], at: usize, stop: usize, tag: u8) -> Element
     ensures { λ r. ⌜ r ≡ withTag tag (elements (now (s .entry)) at stop) ⌝ }
 {
     let mut i = at;
@@ -366,15 +384,15 @@ pub fn with_tag(s: &[u8], at: usize, stop: usize, tag: u8) -> Element
     no_element(0)
 }
 
-// The first field with the tag in the element e, and the first behind its field f.
+// The first field with the tag in the element e, and the first after its field f.
 pub fn field(s: &[u8], e: Element, tag: u8) -> Element
     ensures { λ r. ⌜ r ≡ fieldOf tag (now (s .entry)) e ⌝ }
 {
     with_tag(s, e.start, e.stop, tag)
 }
 
-pub fn field_behind(s: &[u8], e: Element, f: Element, tag: u8) -> Element
-    ensures { λ r. ⌜ r ≡ fieldBehind tag (now (s .entry)) e f ⌝ }
+pub fn field_after(s: &[u8], e: Element, f: Element, tag: u8) -> Element
+    ensures { λ r. ⌜ r ≡ fieldAfter tag (now (s .entry)) e f ⌝ }
 {
     with_tag(s, f.stop, e.stop, tag)
 }
@@ -383,7 +401,7 @@ pub fn field_behind(s: &[u8], e: Element, f: Element, tag: u8) -> Element
 pub fn type_of(s: &[u8], e: Element) -> &[u8]
     ensures { λ r. ⌜ now r ≡ typeOf (now (s .entry)) e ⌝ }
 {
-    contents(s, field(s, e, 0x06))
+    contents(s, field(s, e, OBJECT_IDENTIFIER))
 }
 
 // What a member of a run is compared by.
@@ -393,7 +411,7 @@ pub fn key(s: &[u8], e: Element, by: Compared) -> &[u8]
     match by {
         Compared::Types => type_of(s, e),
         Compared::Contents => contents(s, e),
-        Compared::Octets => whole(s, e),
+        Compared::Encodings => encoding(s, e),
     }
 }
 
@@ -432,8 +450,8 @@ pub fn header_size(n: usize) -> usize
     octets::digit_count(n as u64) + 2
 }
 
-// Writes the length octets of n octets of contents; gives the place behind them.
-pub fn put_length(buf: &mut [u8], at: usize, n: usize) -> usize
+// Writes the length octets of n octets of contents; gives the place after them.
+fn put_length(buf: &mut [u8], at: usize, n: usize) -> usize
     requires { ⌜ at + length (lengthOctets n) ≤ length (now buf) ⌝ }
     ensures { λ r. ⌜ (r ≡ at + length (lengthOctets n)) × (now (buf .exit) ≡ placed (now (buf .entry)) at (lengthOctets n)) ⌝ }
 {
@@ -447,7 +465,7 @@ pub fn put_length(buf: &mut [u8], at: usize, n: usize) -> usize
     at + 1 + k
 }
 
-// Writes the header of n octets of contents; gives the place behind it.
+// Writes the header of n octets of contents; gives the place after it.
 pub fn put_header(buf: &mut [u8], at: usize, tag: u8, n: usize) -> usize
     requires { ⌜ at + length (header tag n) ≤ length (now buf) ⌝ }
     ensures { λ r. ⌜ (r ≡ at + length (header tag n)) × (now (buf .exit) ≡ placed (now (buf .entry)) at (header tag n)) ⌝ }

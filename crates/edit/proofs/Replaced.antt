@@ -6,7 +6,7 @@ use mathlib.Core.Path.{_≡_, refl, sym, ap, ap₂, _∙_}
 use lib.ListN.{length, take, drop, set, length-append, length-take, length-drop, take-append-drop}
 use lib.Seq.{take-at, drop-at, take-take, take-add, take-append-le, drop-drop, length-take-le}
 use Rattle.octets.specs.Octets.{placed}
-use Rattle.octets.proofs.Placed.{placed-one, placed-append, length-placed, drop-placed, drop-behind-placed}
+use Rattle.octets.proofs.Placed.{placed-one, placed-append, length-placed, drop-placed, drop-after-placed}
 use Rattle.store.specs.Image.{encodeSection}
 use Rattle.store.proofs.Walk.{drop-take}
 use Rattle.store.proofs.Standing.{flatMap-append, section-split, section-front}
@@ -53,8 +53,8 @@ section-replaced {A} w h t x m m′ y {countAt} {at} before place =
 
 -- the buffer
 
-take-behind : (a b : List ℕ) {n : ℕ} → length a ≡ n → (k : ℕ) → take (n + k) (a ++ b) ≡ a ++ take k b
-take-behind a b {n} e k = take-add n k (a ++ b) ∙ ap₂ _++_ (take-at a b n e) (ap (take k) (drop-at a b n e))
+take-after : (a b : List ℕ) {n : ℕ} → length a ≡ n → (k : ℕ) → take (n + k) (a ++ b) ≡ a ++ take k b
+take-after a b {n} e k = take-add n k (a ++ b) ∙ ap₂ _++_ (take-at a b n e) (ap (take k) (drop-at a b n e))
 
 -- a write inside the image
 pub take-placed : (d : List ℕ) (len at : ℕ) (s : List ℕ) → at + length s ≤ len → len ≤ length d → take len (placed d at s) ≡ placed (take len d) at s
@@ -64,8 +64,8 @@ take-placed d len at s h l =
     let n : length (take at d) ≡ at = length-take-le at d (omega arith) in
     let r = drop (at + length s) d in
     ap (λ (k : ℕ). take k (take at d ++ (s ++ r))) e
-    ∙ take-behind (take at d) (s ++ r) n (length s + (len - (at + length s)))
-    ∙ ap (λ (b : List ℕ). take at d ++ b) (take-behind s r refl (len - (at + length s)))
+    ∙ take-after (take at d) (s ++ r) n (length s + (len - (at + length s)))
+    ∙ ap (λ (b : List ℕ). take at d ++ b) (take-after s r refl (len - (at + length s)))
     ∙ ap₂ (λ (a b : List ℕ). a ++ (s ++ b)) (sym (take-take at len d (omega arith))) (sym (drop-take (at + length s) len d))
 
 placed-first : (d s : List ℕ) → placed d 0 s ≡ s ++ drop (length s) d
@@ -79,7 +79,7 @@ take-all-placed d s h = ap (take (length s)) (placed-first d s) ∙ take-at s (d
 -- a write that another covers
 pub placed-covered : (d : List ℕ) (at : ℕ) (x s : List ℕ) → at + length x ≤ length s → length s ≤ length d → placed (placed d at x) 0 s ≡ placed d 0 s
 placed-covered d at x s h l =
-    placed-first (placed d at x) s ∙ ap (λ (r : List ℕ). s ++ r) (drop-behind-placed d at x (length s) h (omega arith)) ∙ sym (placed-first d s)
+    placed-first (placed d at x) s ∙ ap (λ (r : List ℕ). s ++ r) (drop-after-placed d at x (length s) h (omega arith)) ∙ sym (placed-first d s)
 
 -- a write inside what was written
 pub placed-twice : (d s : List ℕ) (at : ℕ) (x : List ℕ) → 0 + length s ≤ length d → at + length x ≤ length s → placed (placed d 0 s) at x ≡ placed d 0 (placed s at x)
@@ -90,7 +90,7 @@ placed-twice d s at x l h =
     sym (take-append-drop (length s) (placed b at x))
     ∙ ap₂ _++_
     (take-placed b (length s) at x h (omega arith) ∙ ap (λ (r : List ℕ). placed r at x) (take-all-placed d s (omega arith)))
-    (drop-behind-placed b at x (length s) h (omega arith) ∙ ap (drop (length s)) (placed-first d s) ∙ drop-at s (drop (length s) d) (length s) refl ∙ ap (λ (k : ℕ). drop k d) (sym m))
+    (drop-after-placed b at x (length s) h (omega arith) ∙ ap (drop (length s)) (placed-first d s) ∙ drop-at s (drop (length s) d) (length s) refl ∙ ap (λ (k : ℕ). drop k d) (sym m))
     ∙ sym (placed-first d (placed s at x))
 
 take-before : (d : List ℕ) (to : ℕ) (s : List ℕ) (at : ℕ) → at ≤ to → to ≤ length d → take at (placed d to s) ≡ take at d

@@ -20,7 +20,7 @@ use Rattle.store.proofs.Standing.{section-split, section-front, upTo, anchor-pl
 use Rattle.edit.specs.Edits.{replaced, recounted}
 use Rattle.edit.proofs.Replaced.{replaced-at, placed-replaced, section-replaced}
 
--- the anchors m behind the apex become others
+-- the anchors m after the apex become others
 pub anchors-replaced : (σ : Store) → wellFormed σ ≡ true → (x m m′ y : List Anchor) → σ .others ≡ x ++ (m ++ y)
     → recounted (encode σ) (anchorPlace (encode σ)) (suc (length (x ++ (m′ ++ y)))) (placeOf (encode σ) (suc (length x))) (length (flatMap encodeAnchor m))
     (flatMap encodeAnchor m′)

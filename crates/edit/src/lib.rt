@@ -1,4 +1,4 @@
-// Edits on a scratch image: a lent buffer that holds an image in its first `len` octets, with free room behind it.
+// Edits on a scratch image: a lent buffer that holds an image in its first `len` octets, with free room after it.
 ghost use mathlib.Core.Path.{_≡_};
 ghost use mathlib.Core.List.{_++_};
 ghost use mathlib.Core.Option.{some};

@@ -7,7 +7,7 @@ use lib.ListN.{length}
 use Rattle.der.specs.declared.Fit.{Fit}
 use Rattle.der.specs.declared.Fit.the-variants.{Fits, Breaks}
 use Rattle.der.specs.declared.Element.{Element}
-use Rattle.der.specs.Element.{elementAt, contents, field, fieldBehind}
+use Rattle.der.specs.Element.{elementAt, contents, field, fieldAfter}
 use Rattle.der.specs.Fit.{kept, held}
 use Rattle.der.proofs.Bools.{and-false}
 use Rattle.syntax.specs.declared.TampType.{TampType}
@@ -19,7 +19,8 @@ use Rattle.syntax.specs.Types.{recognised}
 use Rattle.syntax.specs.declared.Form.the-variants as form
 use Rattle.syntax.specs.Forms.{formSyntax}
 use Rattle.envelope.specs.declared.Envelope.the-variants.{Opened}
-use Rattle.envelope.specs.Parts.{contentInfo, contentType, content, signedData, encapContentInfo, certificates, crls, signerInfos, eContentType, eContentTag, eContent}
+use Rattle.envelope.specs.Parts.{contentInfo, contentType, content, signedData, encapContentInfo, certificates, crls, signerInfos, eContentType}
+use Rattle.envelope.specs.Parts.{eContentTag, eContent}
 use Rattle.envelope.specs.Parts.{signerInfo, subjectKeyIdentifier, signedAttrs, unsignedAttrs}
 use Rattle.envelope.specs.Attributes.{attributesFit}
 use Rattle.envelope.specs.Rows.{isTamp, row-29, row-3, row-4, row-9, row-18, row-5, row-6, row-7, row-8}
@@ -66,7 +67,7 @@ module _ (s : List ℕ) where
   unfolding eContent
   eContent-is p q = rw (← p) q
 
-  pub signerInfos-is : {outer former e : Element} → outer ≡ signedData s → former ≡ encapContentInfo s → e ≡ fieldBehind 0x31 s outer former → e ≡ signerInfos s
+  pub signerInfos-is : {outer former e : Element} → outer ≡ signedData s → former ≡ encapContentInfo s → e ≡ fieldAfter 0x31 s outer former → e ≡ signerInfos s
   unfolding signerInfos
   signerInfos-is p r q = rw (← p, ← r) q
 
@@ -95,7 +96,7 @@ module _ (s : List ℕ) where
   unfolding row-4 formSyntax
   row-4-is p q = rw (← p) q
 
-  pub row-9-is : {e : Element} → e ≡ eContentTag s → not (e .good) ≡ row-9 s
+  pub row-9-is : {e : Element} → e ≡ eContentTag s → not (e .valid) ≡ row-9 s
   unfolding row-9
   row-9-is p = rw p
 
@@ -103,7 +104,7 @@ module _ (s : List ℕ) where
   unfolding row-18
   row-18-is p q k = rw (← p, ← q) k
 
-  pub row-5-is : {e : Element} {b : Bool} → e ≡ signedData s → b ≡ field 0xA0 s e .good || field 0xA1 s e .good → b ≡ row-5 s
+  pub row-5-is : {e : Element} {b : Bool} → e ≡ signedData s → b ≡ field 0xA0 s e .valid || field 0xA1 s e .valid → b ≡ row-5 s
   unfolding row-5 certificates crls
   row-5-is p q = rw (← p) q
 
@@ -116,7 +117,7 @@ module _ (s : List ℕ) where
   unfolding row-7 signedAttrs
   row-7-is p q h = rw (← p, ← q) h
 
-  pub row-8-is : {e : Element} {f : Fit} → e ≡ unsignedAttrs s → f ≡ held (e .at) (not (e .good)) → f ≡ row-8 s
+  pub row-8-is : {e : Element} {f : Fit} → e ≡ unsignedAttrs s → f ≡ held (e .at) (not (e .valid)) → f ≡ row-8 s
   unfolding row-8
   row-8-is p h = rw (← p) h
 

@@ -4,17 +4,15 @@ use mathlib.Core.Bool.{Bool, true, false, not, _&&_, and-eq-true-iff}
 use borrow.Author.Tests.{not-true, not-false}
 use mathlib.Core.List.{List, [], _∷_, map}
 use mathlib.Core.Path.{_≡_, refl, sym, ap, ap₂, _∙_}
-use Rattle.octets.specs.Lists.{anyOf}
 use Rattle.octets.specs.Octets.{same, member, ordered}
 use Rattle.octets.specs.Number.{digits}
-use Rattle.octets.proofs.Lists.{both}
 use Rattle.der.specs.declared.Element.{Element}
 use Rattle.der.specs.declared.Fit.{Fit}
 use Rattle.der.specs.declared.Fit.the-variants.{Fits, Breaks}
-use Rattle.der.specs.Element.{elementAt, elements, whole, inside}
+use Rattle.der.specs.Element.{elementAt, elements, encoding, inside}
 use Rattle.der.specs.Fit.{andThen, held, each}
 use Rattle.der.specs.Oid.{oid, arc, arcs}
-use Rattle.der.proofs.Elements.{good-within}
+use Rattle.der.proofs.Elements.{valid-within}
 use Rattle.der.proofs.Fits.{then-fits, then-breaks, held-fits, held-breaks}
 use Rattle.der.proofs.Runs.{Reached}
 use Rattle.repeats.specs.declared.Repeat.{Repeat}
@@ -22,7 +20,7 @@ use Rattle.der.specs.Keys.{typeOf, keyOf, keysFrom}
 use Rattle.repeats.specs.Keys.{firstRepeat, isAt}
 use Rattle.der.specs.declared.Compared.the-variants.{Types}
 use Rattle.repeats.proofs.Repeats.{run-is, run-on}
-use Rattle.der.proofs.Bools.{and-false, on-true, on-false}
+use Rattle.der.proofs.Bools.{on-true, on-false}
 use Rattle.syntax.specs.Grammar.{Syntax, free, obeys, tagged, equals, fit}
 use Rattle.syntax.specs.Asn.{Attribute}
 use Rattle.syntax.specs.Types.{id-contentType, id-messageDigest}
@@ -82,46 +80,46 @@ unfolding attributeFit
 attribute-fit form type o s e h q = rw (h, q)
 
 -- an attribute that the run reaches, and the first whose type stood before, as the rest of the run tells it
-module _ (s : List ℕ) (attributes : Element) {at : ℕ} (r : Reached s (attributes .start) at) {e : Element} (q : e ≡ elementAt s at (attributes .stop)) (g : e .good ≡ true)
+module _ (s : List ℕ) (attributes : Element) {at : ℕ} (r : Reached s (attributes .start) at) {e : Element} (q : e ≡ elementAt s at (attributes .stop)) (g : e .valid ≡ true)
     {first : Repeat} (f : first ≡ firstRepeat Types s (keysFrom Types s (attributes .start) at) (elements s at (attributes .stop))) where
   first-is : isAt first (e .at) ≡ member (keyOf Types s e) (keysFrom Types s (attributes .start) at)
-  first-is = ap₂ isAt f (good-within s at (attributes .stop) q g .here) ∙ run-is Types s at (attributes .stop) q g (attributes .start) r
+  first-is = ap₂ isAt f (valid-within s at (attributes .stop) q g .here) ∙ run-is Types s at (attributes .stop) q g (attributes .start) r
 
   module _ (former : Element) where
-    pub in-place : {b : Bool} → b ≡ ordered (whole s former) (whole s e) && not (isAt first (e .at)) → ordered (whole s former) (whole s e) && not (repeated s attributes e) ≡ b
+    pub in-place : {b : Bool} → b ≡ ordered (encoding s former) (encoding s e) && not (isAt first (e .at)) → ordered (encoding s former) (encoding s e) && not (repeated s attributes e) ≡ b
     unfolding repeated keyOf
     in-place h =
-        let here = good-within s at (attributes .stop) q g .here in
-        ap (λ (x : Bool). ordered (whole s former) (whole s e) && not x) (ap (λ (i : ℕ). member (typeOf s e) (map (typeOf s) (elements s (attributes .start) i))) here ∙ sym first-is) ∙ sym h
+        let here = valid-within s at (attributes .stop) q g .here in
+        ap (λ (x : Bool). ordered (encoding s former) (encoding s e) && not x) (ap (λ (i : ℕ). member (typeOf s e) (map (typeOf s) (elements s (attributes .start) i))) here ∙ sym first-is) ∙ sym h
 
-    pub first-on : ordered (whole s former) (whole s e) && not (isAt first (e .at)) ≡ true
+    pub first-on : ordered (encoding s former) (encoding s e) && not (isAt first (e .at)) ≡ true
         → first ≡ firstRepeat Types s (keysFrom Types s (attributes .start) (e .stop)) (elements s (e .stop) (attributes .stop))
-    first-on h = f ∙ run-on Types s at (attributes .stop) q refl [] r g (sym first-is ∙ not-true _ (and-eq-true-iff (ordered (whole s former) (whole s e)) (not (isAt first (e .at))) .0 h .1))
+    first-on h = f ∙ run-on Types s at (attributes .stop) q refl [] r g (sym first-is ∙ not-true _ (and-eq-true-iff (ordered (encoding s former) (encoding s e)) (not (isAt first (e .at))) .0 h .1))
 
 -- the judge of each attribute
 abbrev pub attributeJudge : List ℕ → List ℕ → Element → Element → Element → Fit
 attributeJudge type s attributes former e =
-    andThen (attributeFit type s e) (held (e .at) (ordered (whole s former) (whole s e) && not (repeated s attributes e)))
+    andThen (attributeFit type s e) (held (e .at) (ordered (encoding s former) (encoding s e) && not (repeated s attributes e)))
 
 module _ (type s : List ℕ) (signer attributes : Element) where
   both-there : Fit
   both-there = held (attributes .at) (hasType s attributes id-contentType && hasType s attributes id-messageDigest)
 
-  pub attributes-absent : not (attributes .good) ≡ true → Breaks (signer .at) ≡ attributesFit type s signer attributes
+  pub attributes-absent : not (attributes .valid) ≡ true → Breaks (signer .at) ≡ attributesFit type s signer attributes
   unfolding attributesFit both-there
   attributes-absent g =
       sym
       (on-false
-      (attributes .good)
+      (attributes .valid)
       (andThen (each (attributeJudge type s attributes) (inside s attributes)) both-there)
       (Breaks (signer .at))
       (not-true _ g))
 
-  module _ (g : not (attributes .good) ≡ false) {f : Fit} (h : f ≡ each (attributeJudge type s attributes) (inside s attributes)) where
+  module _ (g : not (attributes .valid) ≡ false) {f : Fit} (h : f ≡ each (attributeJudge type s attributes) (inside s attributes)) where
     attributes-run : attributesFit type s signer attributes ≡ andThen f both-there
     unfolding attributesFit both-there
     attributes-run =
-        on-true (attributes .good) (andThen (each (attributeJudge type s attributes) (inside s attributes)) both-there) (Breaks (signer .at)) (not-false _ g)
+        on-true (attributes .valid) (andThen (each (attributeJudge type s attributes) (inside s attributes)) both-there) (Breaks (signer .at)) (not-false _ g)
         ∙ ap (λ (x : Fit). andThen x both-there) (sym h)
 
     pub attributes-break : {o : ℕ} → f ≡ Breaks o → Breaks o ≡ attributesFit type s signer attributes

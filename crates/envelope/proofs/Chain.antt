@@ -1,4 +1,4 @@
--- 01, Answers: "The first that applies is given": one more row behind those so far (specs/Given), as a row of the table.
+-- 01, Answers: "The first that applies is given": one more row after those so far (specs/Given), as a row of the table.
 use mathlib.Core.Bool.{Bool, true, false, not}
 use mathlib.Core.Path.{_≡_, refl}
 use Rattle.octets.specs.declared.Status.{Status}

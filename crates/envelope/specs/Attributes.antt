@@ -7,7 +7,7 @@ use Rattle.der.specs.declared.Element.{Element}
 use Rattle.der.specs.declared.Compared.the-variants.{Types}
 use Rattle.der.specs.declared.Fit.{Fit}
 use Rattle.der.specs.declared.Fit.the-variants.{Breaks}
-use Rattle.der.specs.Element.{whole, inside}
+use Rattle.der.specs.Element.{encoding, inside}
 use Rattle.der.specs.Keys.{typeOf, keysFrom, keysIn}
 use Rattle.der.specs.Fit.{andThen, held, each}
 use Rattle.syntax.specs.Grammar.{Syntax, free, obeys, tagged, equals, fit}
@@ -35,16 +35,16 @@ repeated s attributes e = member (typeOf s e) (keysFrom Types s (attributes .sta
 unfoldable pub hasType : List ℕ → Element → List ℕ → Bool
 hasType s attributes type = member type (keysIn Types s attributes)
 
--- Status 7. Each attribute in turn: by itself, in order behind the one before it ("not sorted"), its type new; then both required ones are there.
+-- Status 7. Each attribute in turn: by itself, in order after the one before it ("not sorted"), its type new; then both required ones are there.
 -- "absent" is charged to the SignerInfo, a missing type to signedAttrs.
 unfoldable pub attributesFit : List ℕ → List ℕ → Element → Element → Fit
 attributesFit eContentType s signerInfo attributes =
-    elim (attributes .good) [
+    elim (attributes .valid) [
       | false ↦ Breaks (signerInfo .at)
       | true ↦
           andThen
           (each
-          (λ former e. andThen (attributeFit eContentType s e) (held (e .at) (ordered (whole s former) (whole s e) && not (repeated s attributes e))))
+          (λ former e. andThen (attributeFit eContentType s e) (held (e .at) (ordered (encoding s former) (encoding s e) && not (repeated s attributes e))))
           (inside s attributes))
           (held (attributes .at) (hasType s attributes id-contentType && hasType s attributes id-messageDigest))
     ]

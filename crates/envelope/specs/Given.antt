@@ -1,4 +1,4 @@
--- 01, Answers: "The first that applies is given": the rows one behind the other, as the code goes through them.
+-- 01, Answers: "The first that applies is given": the rows one after the other, as the code goes through them.
 use Prim.Native.Nat.{ℕ}
 use mathlib.Core.Bool.{Bool}
 use Rattle.octets.specs.declared.Status.{Status}

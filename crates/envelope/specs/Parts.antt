@@ -3,7 +3,7 @@ use Prim.Native.Nat.{ℕ}
 use mathlib.Core.List.{List}
 use lib.ListN.{length}
 use Rattle.der.specs.declared.Element.{Element}
-use Rattle.der.specs.Element.{elementAt, field, fieldBehind}
+use Rattle.der.specs.Element.{elementAt, field, fieldAfter}
 
 unfoldable pub contentInfo : List ℕ → Element
 contentInfo s = elementAt s 0 (length s)
@@ -29,7 +29,7 @@ crls s = field 0xA1 s (signedData s)
 
 -- the second SET of SignedData
 unfoldable pub signerInfos : List ℕ → Element
-signerInfos s = fieldBehind 0x31 s (signedData s) (encapContentInfo s)
+signerInfos s = fieldAfter 0x31 s (signedData s) (encapContentInfo s)
 
 unfoldable pub eContentType : List ℕ → Element
 eContentType s = field 0x06 s (encapContentInfo s)

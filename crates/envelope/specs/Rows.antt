@@ -54,7 +54,7 @@ row-4 s = let e = encapContentInfo s in fit EncapsulatedContentInfo s (e .start)
 
 -- 9: eContent absent
 unfoldable pub row-9 : List ℕ → Bool
-row-9 s = not (eContentTag s .good)
+row-9 s = not (eContentTag s .valid)
 
 -- 18: eContentType isn't one of the four
 unfoldable pub row-18 : List ℕ → Recognised
@@ -62,7 +62,7 @@ row-18 s = recognised (contents s (eContentType s))
 
 -- 5: certificates or CRLs present
 unfoldable pub row-5 : List ℕ → Bool
-row-5 s = certificates s .good || crls s .good
+row-5 s = certificates s .valid || crls s .valid
 
 -- 6: not exactly one SignerInfo, or it isn't version 3 with the fields of RFC 5652 and a subjectKeyIdentifier
 unfoldable pub row-6 : List ℕ → Fit
@@ -74,10 +74,10 @@ row-7 s = attributesFit (contents s (eContentType s)) s (signerInfo s) (signedAt
 
 -- 8: unsigned attributes present
 unfoldable pub row-8 : List ℕ → Fit
-row-8 s = let u = unsignedAttrs s in held (u .at) (not (u .good))
+row-8 s = let u = unsignedAttrs s in held (u .at) (not (u .valid))
 
-abbrev pub refuse : Status → ℕ → Element → Envelope
-refuse status offset msgtype = Refused (refusal status offset msgtype)
+abbrev pub refuseMessage : Status → ℕ → Element → Envelope
+refuseMessage status offset msgtype = Refused (refusal status offset msgtype)
 
 -- row 18 hands on which of the four types it is
 unfoldable pub givenUnknown : Recognised → Envelope → (TampType → Envelope) → Envelope
@@ -104,11 +104,11 @@ module _ {A : Type 0} (refusing : Status → ℕ → Element → A) (s : List �
 unfoldable pub envelope : List ℕ → Envelope
 envelope s =
     let about = eContentType s in
-    givenAt (row-1 s) (λ o. refuse decodeFailure o (absent 0))
-    (givenIf (row-29 s) (refuse missingSignature 0 (contentType s))
-    (contentRows refuse s
-    (givenUnknown (row-18 s) (refuse unsupportedTAMPMsgType 0 about) λ kind.
-    (signerRows refuse s
+    givenAt (row-1 s) (λ o. refuseMessage decodeFailure o (absent 0))
+    (givenIf (row-29 s) (refuseMessage missingSignature 0 (contentType s))
+    (contentRows refuseMessage s
+    (givenUnknown (row-18 s) (refuseMessage unsupportedTAMPMsgType 0 about) λ kind.
+    (signerRows refuseMessage s
     (Opened
     (record { kind = kind; msgtype = about; content = eContent s; signer = subjectKeyIdentifier s; attributes = signedAttrs s }))))))
 

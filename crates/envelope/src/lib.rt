@@ -2,9 +2,9 @@
 ghost use mathlib.Core.Path.{_≡_};
 ghost use mathlib.Core.Bool.{false, not, _&&_, _||_};
 ghost use mathlib.Core.List.{List};
-ghost use Prim.Native.Nat.{ℕ, _≤_};
-ghost use Rattle.octets.specs.Octets.{same, ordered};
-ghost use Rattle.der.specs.Element.{absent, whole as wholeOf, contents as contentsOf, inside, field, elements};
+ghost use Prim.Native.Nat.{ℕ};
+ghost use Rattle.octets.specs.Octets.{ordered};
+ghost use Rattle.der.specs.Element.{encoding as encodingOf, contents as contentsOf, inside, field};
 ghost use Rattle.der.specs.Fit.{andThen, held, each};
 ghost use Rattle.repeats.specs.Keys.{isAt};
 ghost use Rattle.syntax.specs.Grammar.{tagged, fit};
@@ -12,12 +12,7 @@ ghost use Rattle.syntax.specs.Asn.{Attribute};
 ghost use Rattle.syntax.specs.Forms.{formSyntax, attributeSyntax};
 ghost use Rattle.syntax.specs.Types.{id-contentType, id-messageDigest};
 ghost use Rattle.envelope.specs.Parts.{contentType};
-ghost use Rattle.envelope.specs.Attributes.{
-  valueSyntax,
-  attributeFit,
-  repeated,
-  hasType, attributesFit,
-};
+ghost use Rattle.envelope.specs.Attributes.{valueSyntax, attributeFit, repeated, hasType, attributesFit};
 ghost use Rattle.envelope.specs.Given.{givenFirst, orAt, orIf, orRef, kindOf};
 ghost use Rattle.envelope.specs.Rows.{isTamp, row-1, row-29, row-2, envelope};
 use der::Compared;
@@ -116,7 +111,7 @@ fn content_type(s: &[u8]) -> Element
     ensures { λ r. ⌜ r ≡ contentType (now (s .entry)) ⌝ }
 {
     let info = der::element_at(s, 0, s.len());
-    der::field(s, info, 0x06)
+    der::field(s, info, der::OBJECT_IDENTIFIER)
 }
 
 // 29: ContentInfo's type is one of the four TAMP types.
@@ -181,11 +176,11 @@ fn has_both(s: &[u8], attributes: Element) -> bool
     has_type(s, attributes, &ID_CONTENT_TYPE) & has_type(s, attributes, &ID_MESSAGE_DIGEST)
 }
 
-// "not sorted, a type repeated": the attribute e stands in order behind the one before it, and is not the first whose type stood before.
+// "not sorted, a type repeated": the attribute e stands in order after the one before it, and is not the first whose type stood before.
 fn is_in_place(s: &[u8], former: Element, e: Element, first: Repeat) -> bool
-    ensures { λ r. ⌜ r ≡ ordered (wholeOf (now (s .entry)) former) (wholeOf (now (s .entry)) e) && not (isAt first (e .at)) ⌝ }
+    ensures { λ r. ⌜ r ≡ ordered (encodingOf (now (s .entry)) former) (encodingOf (now (s .entry)) e) && not (isAt first (e .at)) ⌝ }
 {
-    if !octets::in_order(der::whole(s, former), der::whole(s, e)) {
+    if !octets::in_order(der::encoding(s, former), der::encoding(s, e)) {
         return false;
     }
     !repeats::is_at(first, e.at)
@@ -198,7 +193,7 @@ fn each_attribute(about: &[u8], s: &[u8], attributes: Element) -> Fit
         (λ former e. andThen
         (attributeFit (now (about .entry)) (now (s .entry)) e)
         (held (e .at)
-        (ordered (wholeOf (now (s .entry)) former) (wholeOf (now (s .entry)) e) && not (repeated (now (s .entry)) attributes e))))
+        (ordered (encodingOf (now (s .entry)) former) (encodingOf (now (s .entry)) e) && not (repeated (now (s .entry)) attributes e))))
         (inside (now (s .entry)) attributes) ⌝ }
 {
     let first = repeats::first_repeat(s, der::no_element(0), attributes, Compared::Types);
@@ -206,7 +201,7 @@ fn each_attribute(about: &[u8], s: &[u8], attributes: Element) -> Fit
     let mut e = der::element_at(s, at, attributes.stop);
     let mut former = e;
     while at < attributes.stop {
-        if !e.good {
+        if !e.valid {
             return Fit::Breaks(e.at);
         }
         if let Fit::Breaks(o) = attribute_fit(about, s, e) {
@@ -226,7 +221,7 @@ fn each_attribute(about: &[u8], s: &[u8], attributes: Element) -> Fit
 fn attributes_fit(about: &[u8], s: &[u8], signer: Element, attributes: Element) -> Fit
     ensures { λ r. ⌜ r ≡ attributesFit (now (about .entry)) (now (s .entry)) signer attributes ⌝ }
 {
-    if !attributes.good {
+    if !attributes.valid {
         return Fit::Breaks(signer.at);
     }
     if let Fit::Breaks(o) = each_attribute(about, s, attributes) {
@@ -247,7 +242,7 @@ fn attrs_fit(s: &[u8], about: Element, signer: Element) -> Fit
         der::contents(s, about),
         s,
         signer,
-        der::field(s, signer, 0xA0),
+        der::field(s, signer, der::CONSTRUCTED_0),
     )
 }
 
@@ -294,21 +289,21 @@ fn kind_of(r: Recognised) -> TampType
 
 // 5: SignedData has certificates or CRLs.
 fn has_certificates(s: &[u8], signed: Element) -> bool
-    ensures { λ r. ⌜ r ≡ field 0xA0 (now (s .entry)) signed .good || field 0xA1 (now (s .entry)) signed .good ⌝ }
+    ensures { λ r. ⌜ r ≡ field 0xA0 (now (s .entry)) signed .valid || field 0xA1 (now (s .entry)) signed .valid ⌝ }
 {
-    let certificates = der::field(s, signed, 0xA0);
-    if certificates.good {
+    let certificates = der::field(s, signed, der::CONSTRUCTED_0);
+    if certificates.valid {
         return true;
     }
-    let crls = der::field(s, signed, 0xA1);
-    crls.good
+    let crls = der::field(s, signed, der::CONSTRUCTED_1);
+    crls.valid
 }
 
 // 8: the field e is absent.
 fn is_absent(e: Element) -> Fit
-    ensures { λ r. ⌜ r ≡ held (e .at) (not (e .good)) ⌝ }
+    ensures { λ r. ⌜ r ≡ held (e .at) (not (e .valid)) ⌝ }
 {
-    if e.good {
+    if e.valid {
         return Fit::Breaks(e.at);
     }
     Fit::Fits
@@ -331,14 +326,14 @@ pub fn open(s: &[u8]) -> Envelope
 {
     let none = der::no_element(0);
     let info = der::element_at(s, 0, s.len());
-    let content = der::field(s, info, 0xA0);
-    let signed = der::field(s, content, 0x30);
-    let encap = der::field(s, signed, 0x30);
-    let about = der::field(s, encap, 0x06);
-    let tag = der::field(s, encap, 0xA0);
-    let infos = der::field_behind(s, signed, encap, 0x31);
-    let signer = der::field(s, infos, 0x30);
-    let unsigned = der::field(s, signer, 0xA1);
+    let content = der::field(s, info, der::CONSTRUCTED_0);
+    let signed = der::field(s, content, der::SEQUENCE);
+    let encap = der::field(s, signed, der::SEQUENCE);
+    let about = der::field(s, encap, der::OBJECT_IDENTIFIER);
+    let tag = der::field(s, encap, der::CONSTRUCTED_0);
+    let infos = der::field_after(s, signed, encap, der::SET);
+    let signer = der::field(s, infos, der::SEQUENCE);
+    let unsigned = der::field(s, signer, der::CONSTRUCTED_1);
     let known = syntax::recognise(der::contents(s, about));
     let given = Given::Nothing
         .or_at(der_fit(s), Status::DECODE_FAILURE, none)
@@ -346,7 +341,7 @@ pub fn open(s: &[u8]) -> Envelope
         .or_at(info_fit(s), Status::BAD_CONTENT_INFO, none)
         .or_at(signed_data_fit(s, content), Status::BAD_SIGNED_DATA, none)
         .or_at(encap_fit(s, encap), Status::BAD_ENCAP_CONTENT, none)
-        .or_if(!tag.good, Status::MISSING_CONTENT, about)
+        .or_if(!tag.valid, Status::MISSING_CONTENT, about)
         .or_if(is_unknown(known), Status::UNSUPPORTED_TAMP_MSG_TYPE, about)
         .or_if(has_certificates(s, signed), Status::BAD_CERTIFICATE, about)
         .or_at(signers_fit(s, infos), Status::BAD_SIGNER_INFO, about)
@@ -357,9 +352,9 @@ pub fn open(s: &[u8]) -> Envelope
         Signed {
             kind: kind_of(known),
             msgtype: about,
-            content: der::field(s, tag, 0x04),
-            signer: der::field(s, signer, 0x80),
-            attributes: der::field(s, signer, 0xA0),
+            content: der::field(s, tag, der::OCTET_STRING),
+            signer: der::field(s, signer, der::CONTEXT_0),
+            attributes: der::field(s, signer, der::CONSTRUCTED_0),
         },
     )
 }

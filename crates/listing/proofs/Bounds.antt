@@ -18,9 +18,9 @@ use Rattle.octets.specs.Number.{digits}
 use Rattle.octets.proofs.Lists.{by-test}
 use Rattle.octets.proofs.Placed.{length-placed}
 use Rattle.syntax.specs.Asn.{StoredTrustAnchorInfo}
-use Rattle.anchor.specs.declared.Judged.{Judged}
+use Rattle.anchor.specs.declared.AnchorCheck.{AnchorCheck}
 use Rattle.anchor.specs.Info.{keyIdentifier, hasConstraints}
-use Rattle.anchor.specs.Judge.{statusOf, passes, conforms, judge, storable, identifierOutside}
+use Rattle.anchor.specs.Judge.{checkStatus, passes, conforms, judge, storable, identifierOutside}
 use Rattle.store.specs.Store.{Anchor, Store, anchors, identifierOf}
 use Rattle.store.specs.Image.{decode, anchorOk, wellFormed}
 use Rattle.store.specs.Listing.{hex, decimal, blank, newline, numberText, roleText, anchorLine, anchorLines, countLine, storeText, listingOf, listing}
@@ -31,7 +31,7 @@ use Rattle.listing.specs.Texts.{hexLine}
 use Rattle.listing.proofs.Texts.{hex-line-length, decimal-line-length, count-length}
 
 -- an answer that is no pass was not given
-past : (b : Bool) (answer next : Judged) → passes answer ≡ false → passes (givenIf b answer next) ≡ true → (b ≡ false) × (passes next ≡ true)
+past : (b : Bool) (answer next : AnchorCheck) → passes answer ≡ false → passes (givenIf b answer next) ≡ true → (b ≡ false) × (passes next ≡ true)
 unfolding givenIf
 past true answer next h e = absurd (true≢false (sym e ∙ h))
 past false answer next h e = (refl, e)
@@ -42,7 +42,7 @@ not-false false e = absurd (true≢false e)
 
 -- a stored TrustAnchorInfo passes the checks of an add: its identifier is not outside 1 to 32 octets
 pub storable-identifier : (t : List ℕ) → storable t ≡ true → length (keyIdentifier t) ≤ maxKeyIdentifier
-unfolding storable judge statusOf identifierOutside
+unfolding storable judge checkStatus identifierOutside
 storable-identifier t e =
     let a = past _ _ _ refl (and-eq-true-iff (conforms StoredTrustAnchorInfo t) (passes (judge t)) .0 e .1) in
     let b = past _ _ _ refl (a .1) in

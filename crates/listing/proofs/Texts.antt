@@ -20,7 +20,8 @@ use Rattle.anchor.specs.Role.{roleOf}
 use Rattle.store.specs.Store.{Anchor, Store}
 use Rattle.store.specs.Image.{decode}
 use Rattle.store.specs.Records.{recordsFrom}
-use Rattle.store.specs.Parts.{hwTypeIn, serialIn, anchorCount, firstRecord, recordEnd, recordAt, infoIn, identifierIn, numberIn, anchorIn, nameEnd, nameAt, namesFrom}
+use Rattle.store.specs.Parts.{hwTypeIn, serialIn, anchorCount, firstRecord, recordEnd, recordAt, infoIn, identifierIn, numberIn, anchorIn, nameEnd, nameAt}
+use Rattle.store.specs.Parts.{namesFrom}
 use Rattle.store.specs.Parts.{communityCount, communityOctets, communitiesOf}
 use Rattle.store.specs.Listing.{hexDigit, hex, decimal, blank, newline, roleText, anchorLine, anchorLines, countLine, storeText, listingOf, listing}
 use Rattle.store.proofs.Walk.{records-of, records-turn, names-turn}
@@ -39,7 +40,7 @@ pub digit-high : (n : ℕ) → 10 ≤ n → 55 + n ≡ hexDigit n
 unfolding hexDigit
 digit-high n h = rw (le-ltb n 10 h, hexDigit)
 
--- the octet at place i, and those behind it
+-- the octet at place i, and those after it
 pub hex-turn : (s : List ℕ) (i : ℕ) {a b : ℕ} → i < length s → a ≡ hexDigit (getD s i 0 / 16) → b ≡ hexDigit (getD s i 0 % 16)
     → hex (drop i s) ≡ (a ∷ []) ++ ((b ∷ []) ++ hex (drop (i + 1) s))
 unfolding hex
@@ -187,9 +188,9 @@ text-is image σ e =
     rw (p .hwType, p .serial, ← records-of image, p .anchors-are, count-of-anchors image σ e, p .communities, count-of-communities image σ e)
     (simp append-assoc)
 
-pub good-listing : (image : List ℕ) {b : Bool} → b ≡ isImage image → b ≡ true → imageText image ≡ listing image
+pub valid-listing : (image : List ℕ) {b : Bool} → b ≡ isImage image → b ≡ true → imageText image ≡ listing image
 unfolding listing listingOf
-good-listing image {b} p h = go (decode image) refl
+valid-listing image {b} p h = go (decode image) refl
   where
     go : (o : Option Store) → decode image ≡ o → imageText image ≡ listingOf o
     go none e = absurd (true≢false (sym h ∙ p ∙ ap isGiven e))

@@ -24,7 +24,7 @@ decimalLine n = decimal n ++ (newline ∷ [])
 unfoldable pub numberLine : Option ℕ → List ℕ
 numberLine o = numberText o ++ (newline ∷ [])
 
--- a role, and the blank behind it
+-- a role, and the blank after it
 unfoldable pub roleField : AnchorRole → List ℕ
 roleField Apex = ascii "apex "
 roleField Management = ascii "management "

@@ -1,5 +1,5 @@
 // The listing of a store image (01, Checked examples). Each function but `list` writes its part of the text into a lent buffer from a place on
-// and gives the place behind it.
+// and gives the place after it.
 use anchor::AnchorRole;
 use store::Number;
 ghost use mathlib.Core.Path.{_≡_};
@@ -9,21 +9,8 @@ ghost use lib.ListN.{length, drop};
 ghost use Rattle.octets.specs.Octets.{placed, written};
 ghost use Rattle.store.specs.Listing.{hexDigit, hex, decimal, countLine, listing};
 ghost use Rattle.store.specs.Parts.{numberOf};
-ghost use Rattle.listing.specs.Texts.{
-  hexLine,
-  decimalDigits,
-  decimalLine,
-  numberLine,
-  roleField,
-  keyLine,
-  recordLine,
-  recordLines,
-  nameLines,
-  deviceLine,
-  anchorsText,
-  communitiesText,
-  imageText,
-};
+ghost use Rattle.listing.specs.Texts.{hexLine, decimalDigits, decimalLine, numberLine, roleField, keyLine, recordLine, recordLines, nameLines};
+ghost use Rattle.listing.specs.Texts.{deviceLine, anchorsText, communitiesText, imageText};
 
 const BLANK: u8 = 32;
 

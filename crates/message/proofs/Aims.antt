@@ -8,15 +8,15 @@ use borrow.Author.Tests.{eq-eqb, ne-eqb}
 use Rattle.octets.specs.Lists.{anyOf}
 use Rattle.octets.specs.Octets.{same, member}
 use Rattle.der.specs.declared.Element.{Element}
-use Rattle.der.specs.Element.{contents, inside, field, fieldBehind}
+use Rattle.der.specs.Element.{contents, inside, field, fieldAfter}
 use Rattle.der.proofs.Bools.{on-true, on-false}
 use Rattle.message.specs.declared.Target.{Target}
 use Rattle.message.specs.declared.Target.the-variants as target
-use Rattle.message.specs.Target.{blockNames, entryNames, moduleNames, names, targetOf}
+use Rattle.message.specs.Target.{blockNames, entryNames, moduleNames, namesDevice, targetOf}
 
 module _ (serial s : List ℕ) (e : Element) where
   blockOf : Element → Bool
-  blockOf low = blockNames serial (contents s low) (contents s (fieldBehind 0x04 s e low))
+  blockOf low = blockNames serial (contents s low) (contents s (fieldAfter 0x04 s e low))
 
   someOf : Bool
   someOf = elim (eqb (e .tag) 0x04) [ true ↦ same (contents s e) serial | false ↦ blockOf (field 0x04 s e) ]
@@ -31,7 +31,7 @@ module _ (serial s : List ℕ) (e : Element) where
       on-false (eqb (e .tag) 0x05) true someOf (ne-eqb _ _ h)
       ∙ on-true (eqb (e .tag) 0x04) (same (contents s e) serial) (blockOf (field 0x04 s e)) (eq-eqb _ _ k)
 
-  pub entry-block : (e .tag ≡ 0x05 → ⊥) → (e .tag ≡ 0x04 → ⊥) → {low high : Element} → low ≡ field 0x04 s e → high ≡ fieldBehind 0x04 s e low
+  pub entry-block : (e .tag ≡ 0x05 → ⊥) → (e .tag ≡ 0x04 → ⊥) → {low high : Element} → low ≡ field 0x04 s e → high ≡ fieldAfter 0x04 s e low
       → {l u : List ℕ} → l ≡ contents s low → u ≡ contents s high → entryNames serial s e ≡ blockNames serial l u
   unfolding entryNames someOf blockOf
   entry-block h k {low} {high} p q i j =
@@ -62,22 +62,22 @@ module _ (hwType serial : List ℕ) (communities : List (List ℕ)) (s : List �
   listed : Bool
   listed = elim (eqb (t .tag) 0xA2) [ true ↦ inCommunity | false ↦ inModule ]
 
-  pub names-all : t .tag ≡ 0x83 → names hwType serial communities s t ≡ true
-  unfolding names listed
+  pub names-all : t .tag ≡ 0x83 → namesDevice hwType serial communities s t ≡ true
+  unfolding namesDevice listed
   names-all h = on-true (eqb (t .tag) 0x83) true listed (eq-eqb _ _ h)
 
-  pub names-community : (t .tag ≡ 0x83 → ⊥) → t .tag ≡ 0xA2 → names hwType serial communities s t ≡ inCommunity
-  unfolding names listed
+  pub names-community : (t .tag ≡ 0x83 → ⊥) → t .tag ≡ 0xA2 → namesDevice hwType serial communities s t ≡ inCommunity
+  unfolding namesDevice listed
   names-community h k =
       on-false (eqb (t .tag) 0x83) true listed (ne-eqb _ _ h) ∙ on-true (eqb (t .tag) 0xA2) inCommunity inModule (eq-eqb _ _ k)
 
-  pub names-module : (t .tag ≡ 0x83 → ⊥) → (t .tag ≡ 0xA2 → ⊥) → names hwType serial communities s t ≡ inModule
-  unfolding names listed
+  pub names-module : (t .tag ≡ 0x83 → ⊥) → (t .tag ≡ 0xA2 → ⊥) → namesDevice hwType serial communities s t ≡ inModule
+  unfolding namesDevice listed
   names-module h k =
       on-false (eqb (t .tag) 0x83) true listed (ne-eqb _ _ h) ∙ on-false (eqb (t .tag) 0xA2) inCommunity inModule (ne-eqb _ _ k)
 
   reached : Target
-  reached = elim (names hwType serial communities s t) [ true ↦ target.Named | false ↦ target.Elsewhere ]
+  reached = elim (namesDevice hwType serial communities s t) [ true ↦ target.Named | false ↦ target.Elsewhere ]
 
   pub target-uri : t .tag ≡ 0x84 → targetOf hwType serial communities s t ≡ target.Unsupported
   unfolding targetOf reached
@@ -94,10 +94,10 @@ module _ (hwType serial : List ℕ) (communities : List (List ℕ)) (s : List �
       unfolding targetOf reached
       judged = on-false (eqb (t .tag) 0x84 || eqb (t .tag) 0xA5) target.Unsupported reached (rw (ne-eqb _ _ n, ne-eqb _ _ k))
 
-      pub target-named : names hwType serial communities s t ≡ true → targetOf hwType serial communities s t ≡ target.Named
+      pub target-named : namesDevice hwType serial communities s t ≡ true → targetOf hwType serial communities s t ≡ target.Named
       unfolding reached
-      target-named h = judged ∙ on-true (names hwType serial communities s t) target.Named target.Elsewhere h
+      target-named h = judged ∙ on-true (namesDevice hwType serial communities s t) target.Named target.Elsewhere h
 
-      pub target-elsewhere : names hwType serial communities s t ≡ false → targetOf hwType serial communities s t ≡ target.Elsewhere
+      pub target-elsewhere : namesDevice hwType serial communities s t ≡ false → targetOf hwType serial communities s t ≡ target.Elsewhere
       unfolding reached
-      target-elsewhere h = judged ∙ on-false (names hwType serial communities s t) target.Named target.Elsewhere h
+      target-elsewhere h = judged ∙ on-false (namesDevice hwType serial communities s t) target.Named target.Elsewhere h

@@ -12,11 +12,11 @@ use Rattle.octets.specs.Limits.{maxDepth}
 use Rattle.octets.proofs.Lists.{by-test}
 use Rattle.der.specs.declared.Element.{Element}
 use Rattle.der.specs.declared.Fit.the-variants.{Fits}
-use Rattle.der.specs.Element.{elementAt, elements, inside, whole, field, constructed}
+use Rattle.der.specs.Element.{elementAt, elements, inside, encoding, field, constructed}
 use Rattle.der.specs.Fit.{andThen, kept}
 use Rattle.der.specs.Check.{der, spans}
 use Rattle.der.proofs.Fits.{then-fits}
-use Rattle.der.proofs.Elements.{good-within, elements-turn}
+use Rattle.der.proofs.Elements.{valid-within, elements-turn}
 use Rattle.syntax.specs.Grammar.{end, obeys, many, required, notEmpty, fit}
 use Rattle.syntax.specs.Asn.{TrustAnchorUpdate, TrustAnchorChoice, TrustAnchorInfo, StoredTrustAnchorInfo}
 use Rattle.syntax.specs.declared.TampType.the-variants.{Update}
@@ -37,12 +37,12 @@ Conforming t = kept (andThen (spans maxDepth t 0 (length t) 0) (fit StoredTrustA
 
 -- the TrustAnchorInfo that an entry adds, if it adds one
 abbrev pub Adding : List ℕ → Entry → Type 0
-Adding s (entry.Add e) = Conforming (whole s e)
+Adding s (entry.Add e) = Conforming (encoding s e)
 Adding s entry.AddCertificate = Unit {0}
 Adding s (entry.Remove e) = Unit {0}
 Adding s entry.Change = Unit {0}
 
-conforming : (s : List ℕ) (at stop : ℕ) (e : Element) → Found 0x30 TrustAnchorInfo s at stop e → der 12 s e ≡ Fits → Conforming (whole s e)
+conforming : (s : List ℕ) (at stop : ℕ) (e : Element) → Found 0x30 TrustAnchorInfo s at stop e → der 12 s e ≡ Fits → Conforming (encoding s e)
 conforming s at stop e f h =
     ap kept
     (then-fits _ (spans-alone s e (f .own) maxDepth (deeper-to 12 maxDepth s e (omega arith) h))
@@ -60,17 +60,17 @@ entry-adding s outer e o h d =
     (λ u.
     let q = eqb-true (e .tag) 0xA1 t in
     let f = one-fits s (e .start) (e .stop) (e .at) refl TrustAnchorChoice end (choice-fits TrustAnchorUpdate s outer 0xA1 e o q h) in
-    let w = good-within s (e .start) (e .stop) refl (f .good) in
-    let own = own s (e .start) (e .stop) refl (f .good) in
+    let w = valid-within s (e .start) (e .stop) refl (f .valid) in
+    let own = own s (e .start) (e .stop) refl (f .valid) in
     let k = choice-fits TrustAnchorChoice s (e .at) 0xA2 choice own (eqb-true (choice .tag) 0xA2 u) (rw (w .here) (f .alone)) in
     let p = placed 0x30 s (required 0x30 TrustAnchorInfo end) (choice .start) (choice .stop) (choice .at) k in
     let members : Every (λ m. der 13 s m ≡ Fits) (choice ∷ elements s (choice .stop) (e .stop)) =
-    rw (elements-turn s (e .start) (e .stop) refl (f .good)) at (inside-der 13 s e d (rw q))
+    rw (elements-turn s (e .start) (e .stop) refl (f .valid)) at (inside-der 13 s e d (rw q))
     in
     let c : constructed (choice .tag) ≡ true = rw (eqb-true (choice .tag) 0xA2 u) in
     rw (t, u, entryOf)
     (conforming s (choice .start) (choice .stop) (field 0x30 s choice) (p .0)
-    (tagged-member (λ m. der 12 s m ≡ Fits) 0x30 (inside s choice) (inside-der 12 s choice (members .0) c) (p .0 .own .good))))
+    (tagged-member (λ m. der 12 s m ≡ Fits) 0x30 (inside s choice) (inside-der 12 s choice (members .0) c) (p .0 .own .valid))))
     (λ u. rw (t, u, entryOf) tt))
     (λ t. by-test (eqb (e .tag) 0xA2) (λ u. rw (t, u, entryOf) tt) (λ u. rw (t, u, entryOf) tt))
 
@@ -81,7 +81,7 @@ entries-adding s body b =
     let u = updates-found Update s body (obeys notEmpty (many TrustAnchorUpdate)) _ refl b in
     let outer = updates .at in
     let P : Element → Type 0 = Member s (updates .start) (updates .stop) in
-    let Q : Element → Type 0 = λ m. (m .good ≡ true) × (fit TrustAnchorUpdate s (m .at) (m .stop) outer ≡ Fits) in
+    let Q : Element → Type 0 = λ m. (m .valid ≡ true) × (fit TrustAnchorUpdate s (m .at) (m .stop) outer ≡ Fits) in
     let R : Element → Type 0 = λ m. der 14 s m ≡ Fits in
     let all = inside s updates in
     every-map (entryOf s) (Adding s) all

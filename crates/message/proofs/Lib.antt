@@ -7,4 +7,3 @@ pub mod Fields
 pub mod Rows
 pub mod Aims
 pub mod Numbers
-pub mod Loops

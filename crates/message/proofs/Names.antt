@@ -1,4 +1,4 @@
--- Names one behind the other (specs/Names): a loop's turn, and reading what was written.
+-- Names one after the other (specs/Names): a loop's turn, and reading what was written.
 use Prim.Native.Nat.{ℕ, zero, suc, _+_, _-_, _≤_, _<_, min}
 use native.Mathlib.Numerals.{add-one}
 use native.Mathlib.Omega.{arith}
@@ -9,29 +9,29 @@ use lib.ListN.{length, getD, take, drop, length-drop, drop-of-length-le}
 use lib.Seq.{drop-cons, drop-drop, take-all, take-at, drop-at}
 use lib.Dec.{leb}
 use borrow.Author.Tests.{leb-true, leb-false}
-use Rattle.octets.specs.Octets.{part, same, member}
+use Rattle.octets.specs.Octets.{slice, same, member}
 use Rattle.octets.specs.Lists.{anyOf}
 use Rattle.octets.proofs.Lists.{by-test}
-use Rattle.message.specs.Names.{namesBehind, namesIn}
+use Rattle.message.specs.Names.{namesAfter, namesIn}
 
-names-skip : (k : ℕ) (s : List ℕ) → namesBehind k s ≡ namesIn (drop k s)
-unfolding namesBehind namesIn
+names-skip : (k : ℕ) (s : List ℕ) → namesAfter k s ≡ namesIn (drop k s)
+unfolding namesAfter namesIn
 names-skip zero s = refl
 names-skip (suc k) [] = refl
 names-skip (suc k) (x ∷ s) = names-skip k s
 
 names-first : (n : ℕ) (s : List ℕ) → namesIn (n ∷ s) ≡ take n s ∷ namesIn (drop n s)
-unfolding namesIn namesBehind
+unfolding namesIn namesAfter
 names-first n s = ap (λ (l : List (List ℕ)). take n s ∷ l) (names-skip n s)
 
 pub names-end : (s : List ℕ) (i : ℕ) → length s ≤ i → namesIn (drop i s) ≡ []
-unfolding namesIn namesBehind
+unfolding namesIn namesAfter
 names-end s i h = rw (drop-of-length-le s h)
 
 -- a name that is cut short ends where the octets end
 module _ (s : List ℕ) (m n : ℕ) where
-  cut-part : take n (drop m s) ≡ part s m (min (m + n) (length s))
-  cut-part =
+  cut-slice : take n (drop m s) ≡ slice s m (min (m + n) (length s))
+  cut-slice =
       by-test (leb (m + n) (length s))
       (λ t.
       let l = leb-true (m + n) (length s) t in
@@ -56,11 +56,11 @@ module _ (s : List ℕ) (m n : ℕ) where
       rw (e, drop-drop n m s, drop-of-length-le s {i = m + n} (omega arith)) (sym (drop-of-length-le s {i = length s} (omega arith))))
 
 pub names-turn : (s : List ℕ) (i : ℕ) → i < length s → {n e : ℕ} → n ≡ getD s i 0 → e ≡ min (i + 1 + n) (length s)
-    → namesIn (drop i s) ≡ part s (i + 1) e ∷ namesIn (drop e s)
+    → namesIn (drop i s) ≡ slice s (i + 1) e ∷ namesIn (drop e s)
 names-turn s i h {n} {e} p q =
     ap namesIn (drop-cons s i 0 h)
     ∙ names-first (getD s i 0) (drop (suc i) s)
-    ∙ rw (q, p, add-one) (ap₂ (λ (x : List ℕ) (r : List ℕ). x ∷ namesIn r) (cut-part s (suc i) (getD s i 0)) (cut-rest s (suc i) (getD s i 0)))
+    ∙ rw (q, p, add-one) (ap₂ (λ (x : List ℕ) (r : List ℕ). x ∷ namesIn r) (cut-slice s (suc i) (getD s i 0)) (cut-rest s (suc i) (getD s i 0)))
 
 -- a search among them
 module _ (o s : List ℕ) (i : ℕ) where
@@ -69,17 +69,17 @@ module _ (o s : List ℕ) (i : ℕ) where
   among-end h = rw (names-end s i h)
 
   module _ (h : i < length s) {n e : ℕ} (p : n ≡ getD s i 0) (q : e ≡ min (i + 1 + n) (length s)) where
-    pub among-found : same o (part s (i + 1) e) ≡ true → member o (namesIn (drop i s)) ≡ true
+    pub among-found : same o (slice s (i + 1) e) ≡ true → member o (namesIn (drop i s)) ≡ true
     unfolding member anyOf
     among-found k = ap (member o) (names-turn s i h p q) ∙ ap (λ (b : Bool). b || member o (namesIn (drop e s))) k
 
-    pub among-turn : same o (part s (i + 1) e) ≡ false → member o (namesIn (drop i s)) ≡ member o (namesIn (drop e s))
+    pub among-turn : same o (slice s (i + 1) e) ≡ false → member o (namesIn (drop i s)) ≡ member o (namesIn (drop e s))
     unfolding member anyOf
     among-turn k = ap (member o) (names-turn s i h p q) ∙ ap (λ (b : Bool). b || member o (namesIn (drop e s))) k
 
 -- 01, The store image: what is written so is read again
 pub names-written : (l : List (List ℕ)) → namesIn (flatMap (λ o. length o ∷ o) l) ≡ l
-unfolding namesIn namesBehind flatMap
+unfolding namesIn namesAfter flatMap
 names-written [] = refl
 names-written (o ∷ l) =
     names-first (length o) (o ++ flatMap (λ o. length o ∷ o) l)

@@ -21,19 +21,19 @@ use Rattle.syntax.specs.declared.TampType.the-variants.{StatusQuery, Update, Co
 use Rattle.syntax.specs.Types.{syntaxOf}
 use Rattle.syntax.proofs.Each.{Every, every-weaken, every-both, every-map, then-both}
 use Rattle.syntax.proofs.Match.{one-fits, obeys-fits}
-use Rattle.syntax.proofs.Window.{Own, tagged-member, behind-member}
+use Rattle.syntax.proofs.Window.{Own, tagged-member, after-member}
 use Rattle.syntax.proofs.Fields.{Place, lacks, onlyField, fieldIn, Found, Placed, placed, chosen, each-found}
 use Rattle.syntax.proofs.Depth.{inside-der, contents-der, spans-fits}
-use Rattle.syntax.proofs.Rules.{seqNumber-number, octets-part}
+use Rattle.syntax.proofs.Rules.{seqNumber-number, octets-slice}
 use Rattle.message.specs.Fields.{bodyIn, msgRefIn, seqNumIn, updatesIn, seqNumbersIn, oidsIn, additionsIn}
 use Rattle.message.specs.Rows.{row-36}
 
--- what stands behind msgRef
-abbrev pub behindMsgRef : TampType → Syntax
-behindMsgRef StatusQuery = end
-behindMsgRef Update = required 0x30 (obeys notEmpty (many TrustAnchorUpdate)) (optional 0xA2 TAMPSequenceNumbers end)
-behindMsgRef CommunityUpdate = required 0x30 CommunityUpdates end
-behindMsgRef SeqNumAdjust = end
+-- what stands after msgRef
+abbrev pub afterMsgRef : TampType → Syntax
+afterMsgRef StatusQuery = end
+afterMsgRef Update = required 0x30 (obeys notEmpty (many TrustAnchorUpdate)) (optional 0xA2 TAMPSequenceNumbers end)
+afterMsgRef CommunityUpdate = required 0x30 CommunityUpdates end
+afterMsgRef SeqNumAdjust = end
 
 -- what stands in the message
 pub record Body (kind : TampType) (s : List ℕ) (body : Element) : Type 0 where
@@ -41,7 +41,7 @@ pub record Body (kind : TampType) (s : List ℕ) (body : Element) : Type 0 where
   pub checked : der maxDepth s body ≡ Fits
   pub sequence : constructed (body .tag) ≡ true
   pub msgRef : Found 0x30 TAMPMsgRef s (body .start) (body .stop) (msgRefIn s body)
-  pub behind : fit (behindMsgRef kind) s (msgRefIn s body .stop) (body .stop) (body .at) ≡ Fits
+  pub after : fit (afterMsgRef kind) s (msgRefIn s body .stop) (body .stop) (body .at) ≡ Fits
 
 module _ (s : List ℕ) (content : Element) where
   body-found : (g : Syntax) → fit (required 0x30 g end) s (content .start) (content .stop) (content .at) ≡ Fits
@@ -49,12 +49,12 @@ module _ (s : List ℕ) (content : Element) where
   unfolding bodyIn
   body-found g h =
       let f = one-fits s (content .start) (content .stop) (content .at) refl (optional 0x30 g end) end h in
-      chosen s (content .start) (content .stop) (content .at) refl (f .good) 0x30 g (f .alone)
+      chosen s (content .start) (content .stop) (content .at) refl (f .valid) 0x30 g (f .alone)
 
   body-with : (kind : TampType) (g : Syntax) → spans maxDepth s (content .start) (content .stop) (content .at) ≡ Fits
       → (f : Found 0x30 g s (content .start) (content .stop) (bodyIn s content))
       → Placed 0x30 s (bodyIn s content .start) (bodyIn s content .stop) (bodyIn s content .at) (msgRefIn s (bodyIn s content))
-      (Place.must TAMPMsgRef (behindMsgRef kind))
+      (Place.must TAMPMsgRef (afterMsgRef kind))
       → Body kind s (bodyIn s content)
   unfolding bodyIn
   body-with kind g d f p =
@@ -63,7 +63,7 @@ module _ (s : List ℕ) (content : Element) where
         checked = spans-fits maxDepth s (content .start) (content .stop) (content .at) d .0;
         sequence = rw (f .tag);
         msgRef = p .0;
-        behind = p .1;
+        after = p .1;
       }
 
   pub body-parts : (kind : TampType) → row-36 kind s content ≡ Fits → Body kind s (bodyIn s content)
@@ -89,7 +89,7 @@ module _ (s : List ℕ) (content : Element) where
 
 number-found : (s : List ℕ) (at stop : ℕ) (e : Element) → Octets s → Found 0x02 (obeys seqNumber free) s at stop e → number (contents s e) ≤ maxNumber
 number-found s at stop e o f =
-    seqNumber-number (contents s e) (octets-part s (e .start) (e .stop) o) (obeys-fits s (e .start) (e .stop) (e .at) seqNumber free (f .fits) .1)
+    seqNumber-number (contents s e) (octets-slice s (e .start) (e .stop) o) (obeys-fits s (e .start) (e .stop) (e .at) seqNumber free (f .fits) .1)
 
 pub msgRef-number : (s : List ℕ) (at stop : ℕ) (msgRef : Element) → Octets s → Found 0x30 TAMPMsgRef s at stop msgRef → seqNumIn s msgRef ≤ maxNumber
 unfolding seqNumIn fieldIn lacks onlyField
@@ -119,7 +119,7 @@ module _ (s : List ℕ) (content : Element) (h : row-36 Update s content ≡ Fit
       let list = field 0xA2 s body in
       let pair : Element → List ℕ × ℕ = λ e. (contents s (field 0x04 s e), number (contents s (field 0x02 s e))) in
       every-map pair (λ p. p .1 ≤ maxNumber) (inside s list)
-      (by-test (list .good)
+      (by-test (list .valid)
       (λ g.
       let f = seqNumbers-placed .0 g in
       let m = obeys-fits s (list .start) (list .stop) (list .at) notEmpty (many (tagged 0x30 TAMPSequenceNumber)) (f .fits) .0 in
@@ -131,20 +131,20 @@ module _ (s : List ℕ) (content : Element) (h : row-36 Update s content ≡ Fit
 
 -- CommunityUpdates
 
--- the updates behind msgRef
-pub updates-found : (kind : TampType) (s : List ℕ) (body : Element) (g next : Syntax) → behindMsgRef kind ≡ required 0x30 g next → Body kind s body
+-- the updates after msgRef
+pub updates-found : (kind : TampType) (s : List ℕ) (body : Element) (g next : Syntax) → afterMsgRef kind ≡ required 0x30 g next → Body kind s body
     → Found 0x30 g s (msgRefIn s body .stop) (body .stop) (updatesIn s body (msgRefIn s body)) × (der 15 s (updatesIn s body (msgRefIn s body)) ≡ Fits)
 unfolding updatesIn msgRefIn fieldIn lacks onlyField
 updates-found kind s body g next q b =
     let msgRef = field 0x30 s body in
     let p : Placed 0x30 s (msgRef .stop) (body .stop) (body .at) (withTag 0x30 (elements s (msgRef .stop) (body .stop))) (Place.must g next) =
-    placed 0x30 s (required 0x30 g next) (msgRef .stop) (body .stop) (body .at) (rw q at (b .behind))
+    placed 0x30 s (required 0x30 g next) (msgRef .stop) (body .stop) (body .at) (rw q at (b .after))
     in
     let P : Element → Type 0 = λ m. der 15 s m ≡ Fits in (
       p .0,
       tagged-member P 0x30 (elements s (msgRef .stop) (body .stop))
-          (behind-member P 0x30 s (body .start) (body .stop) (inside-der 15 s body (b .checked) (b .sequence)) (b .msgRef .own .good))
-          (p .0 .own .good),
+          (after-member P 0x30 s (body .start) (body .stop) (inside-der 15 s body (b .checked) (b .sequence)) (b .msgRef .own .valid))
+          (p .0 .own .valid),
     )
 
 -- an OID that passed status 1's rules
@@ -176,7 +176,7 @@ module _ (s : List ℕ) (body : Element) (b : Body CommunityUpdate s body) where
       let u = updates-found CommunityUpdate s body CommunityUpdates end refl b in
       let list = field 0xA2 s updates in
       let p = placed 0xA2 s CommunityUpdates (updates .start) (updates .stop) (updates .at) (u .0 .fits) in
-      by-test (list .good)
+      by-test (list .valid)
       (λ g.
       oids-found 12 s (updates .start) (updates .stop) 0xA2 list refl (p .0 g)
       (tagged-member (λ m. der 14 s m ≡ Fits) 0xA2 (inside s updates) (inside-der 14 s updates (u .1) (rw (u .0 .tag))) g))

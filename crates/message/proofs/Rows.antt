@@ -25,7 +25,7 @@ use Rattle.envelope.specs.Given.{givenFirst, orAt, orIf, orRef}
 use Rattle.envelope.proofs.Chain.{first-row, row-at, row-if, row-ref}
 use Rattle.message.specs.declared.Received.the-variants.{Asks, Refused}
 use Rattle.message.specs.Fields.{bodyIn, msgRefIn, versionIn, terseIn}
-use Rattle.message.specs.Rows.{row-36, row-31, row-127, asksForm, unwrapped, receivedOf, received}
+use Rattle.message.specs.Rows.{row-36, row-31, row-127, hasTerse, unwrapped, receivedOf, received}
 
 module _ (kind : TampType) (s : List ℕ) (e : Element) where
   pub body-breaks : {o : ℕ} → spans maxDepth s (e .start) (e .stop) (e .at) ≡ Breaks o → row-36 kind s e ≡ Breaks o
@@ -37,11 +37,11 @@ module _ (kind : TampType) (s : List ℕ) (e : Element) where
   body-fits h = then-fits _ h
 
 module _ (kind : TampType) (s : List ℕ) (body : Element) where
-  pub verbose-never : asksForm kind ≡ false → row-127 kind s body ≡ false
+  pub verbose-never : hasTerse kind ≡ false → row-127 kind s body ≡ false
   unfolding row-127
   verbose-never h = rw h
 
-  pub verbose-unless : asksForm kind ≡ true → {terse : Element} → terse ≡ field 0x81 s body → row-127 kind s body ≡ not (terse .good)
+  pub verbose-unless : hasTerse kind ≡ true → {terse : Element} → terse ≡ field 0x81 s body → row-127 kind s body ≡ not (terse .valid)
   unfolding row-127 terseIn
   verbose-unless h q = rw (h, q)
 
@@ -51,9 +51,9 @@ module _ (s : List ℕ) (w : Signed) {body : Element} (b : body ≡ elementAt s 
   unfolding bodyIn
   body-is = b
 
-  row-31-is : {version : Element} → version ≡ field 0x80 s body → version .good ≡ row-31 s (bodyIn s (w .content))
+  row-31-is : {version : Element} → version ≡ field 0x80 s body → version .valid ≡ row-31 s (bodyIn s (w .content))
   unfolding row-31 versionIn
-  row-31-is q = rw (← body-is) (ap (λ (e : Element). e .good) q)
+  row-31-is q = rw (← body-is) (ap (λ (e : Element). e .valid) q)
 
   msgref-is : {msgref : Element} → msgref ≡ field 0x30 s body → msgref ≡ msgRefIn s (bodyIn s (w .content))
   unfolding msgRefIn
@@ -61,7 +61,7 @@ module _ (s : List ℕ) (w : Signed) {body : Element} (b : body ≡ elementAt s 
 
   pub unwraps : {version msgref : Element} → version ≡ field 0x80 s body → msgref ≡ field 0x30 s body → {f : Fit} {v : Bool}
       → f ≡ row-36 (w .kind) s (w .content) → v ≡ row-127 (w .kind) s body → {g1 g2 g3 : Given}
-      → g1 ≡ orAt Nothing f malformed (w .msgtype) → g2 ≡ orIf g1 (version .good) versionNumberMismatch (w .msgtype) → g3 ≡ orRef g2 v other (w .msgtype) msgref
+      → g1 ≡ orAt Nothing f malformed (w .msgtype) → g2 ≡ orIf g1 (version .valid) versionNumberMismatch (w .msgtype) → g3 ≡ orRef g2 v other (w .msgtype) msgref
       → givenFirst g3 Refused
       (Asks (record { kind = w .kind; msgtype = w .msgtype; signer = w .signer; attributes = w .attributes; body = body; msgref = msgref }))
       ≡ unwrapped s w

@@ -6,7 +6,7 @@ use lib.ListN.{drop}
 use lib.Dec.{eqb}
 use Rattle.octets.specs.Number.{number}
 use Rattle.der.specs.declared.Element.{Element}
-use Rattle.der.specs.Element.{elementAt, whole, contents, inside, field, fieldBehind}
+use Rattle.der.specs.Element.{elementAt, encoding, contents, inside, field, fieldAfter}
 use Rattle.message.specs.declared.Entry.{Entry}
 use Rattle.message.specs.declared.Entry.the-variants as entry
 
@@ -31,9 +31,9 @@ targetIn s msgRef = elementAt s (msgRef .start) (msgRef .stop)
 unfoldable pub seqNumIn : List ℕ → Element → ℕ
 seqNumIn s msgRef = number (contents s (field 0x02 s msgRef))
 
--- updates of an Update or a Community Update: the field behind msgRef
+-- updates of an Update or a Community Update: the field after msgRef
 unfoldable pub updatesIn : List ℕ → Element → Element → Element
-updatesIn s body msgRef = fieldBehind 0x30 s body msgRef
+updatesIn s body msgRef = fieldAfter 0x30 s body msgRef
 
 -- TrustAnchorUpdate: add [1] TrustAnchorChoice with taInfo [2] or a certificate form, remove [2], change [3]
 unfoldable pub entryOf : List ℕ → Element → Entry
@@ -50,7 +50,7 @@ entriesIn s body msgRef = map (entryOf s) (inside s (updatesIn s body msgRef))
 
 -- 01, The store image: SubjectPublicKeyInfo octets, "the first read as 30 where a message tags it otherwise"
 unfoldable pub keyIn : List ℕ → Element → List ℕ
-keyIn s e = 0x30 ∷ drop 1 (whole s e)
+keyIn s e = 0x30 ∷ drop 1 (encoding s e)
 
 -- tampSeqNumbers [2]: key identifiers and numbers, in order
 unfoldable pub seqNumbersIn : List ℕ → Element → List (List ℕ × ℕ)

@@ -29,17 +29,17 @@ row-36 kind s e = andThen (spans maxDepth s (e .start) (e .stop) (e .at)) (fit (
 
 -- 31: version other than 2
 unfoldable pub row-31 : List ℕ → Element → Bool
-row-31 s body = versionIn s body .good
+row-31 s body = versionIn s body .valid
 
 -- 127: a verbose reply is wanted. An Adjust has no terse field and is never answered so
-unfoldable pub asksForm : TampType → Bool
-asksForm StatusQuery = true
-asksForm Update = true
-asksForm CommunityUpdate = true
-asksForm SeqNumAdjust = false
+unfoldable pub hasTerse : TampType → Bool
+hasTerse StatusQuery = true
+hasTerse Update = true
+hasTerse CommunityUpdate = true
+hasTerse SeqNumAdjust = false
 
 unfoldable pub row-127 : TampType → List ℕ → Element → Bool
-row-127 kind s body = asksForm kind && not (terseIn s body .good)
+row-127 kind s body = hasTerse kind && not (terseIn s body .valid)
 
 -- what is in the wrapper, by the rows 36, 31 and 127; msgRef is sent from 127 on
 unfoldable pub unwrapped : List ℕ → Signed → Received

@@ -10,7 +10,7 @@ use Rattle.octets.specs.Lists.{anyOf}
 use Rattle.octets.specs.Octets.{same, member}
 use Rattle.octets.specs.Number.{number}
 use Rattle.der.specs.declared.Element.{Element}
-use Rattle.der.specs.Element.{contents, inside, field, fieldBehind}
+use Rattle.der.specs.Element.{contents, inside, field, fieldAfter}
 use Rattle.message.specs.declared.Target.{Target}
 use Rattle.message.specs.declared.Target.the-variants as target
 
@@ -29,7 +29,7 @@ entryNames serial s e =
       | false ↦
           elim (eqb (e .tag) 0x04) [
             | true ↦ same (contents s e) serial
-            | false ↦ blockNames serial (contents s low) (contents s (fieldBehind 0x04 s e low))
+            | false ↦ blockNames serial (contents s low) (contents s (fieldAfter 0x04 s e low))
           ]
     ]
 
@@ -38,8 +38,8 @@ unfoldable pub moduleNames : List ℕ → List ℕ → List ℕ → Element → 
 moduleNames hwType serial s m = same (contents s (field 0x06 s m)) hwType && anyOf (entryNames serial s) (inside s (field 0x30 s m))
 
 -- "allModules; a community in the store; or the same hwType with .."
-unfoldable pub names : List ℕ → List ℕ → List (List ℕ) → List ℕ → Element → Bool
-names hwType serial communities s t =
+unfoldable pub namesDevice : List ℕ → List ℕ → List (List ℕ) → List ℕ → Element → Bool
+namesDevice hwType serial communities s t =
     elim (eqb (t .tag) 0x83) [
       | true ↦ true
       | false ↦
@@ -54,7 +54,7 @@ unfoldable pub targetOf : List ℕ → List ℕ → List (List ℕ) → List ℕ
 targetOf hwType serial communities s t =
     elim (eqb (t .tag) 0x84 || eqb (t .tag) 0xA5) [
       | true ↦ target.Unsupported
-      | false ↦ elim (names hwType serial communities s t) [ true ↦ target.Named | false ↦ target.Elsewhere ]
+      | false ↦ elim (namesDevice hwType serial communities s t) [ true ↦ target.Named | false ↦ target.Elsewhere ]
     ]
 
 -- 01's numbers

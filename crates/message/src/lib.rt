@@ -5,12 +5,12 @@ ghost use lib.ListN.{length, take};
 ghost use Rattle.octets.specs.Lists.{anyOf};
 ghost use Rattle.octets.specs.Octets.{member};
 ghost use Rattle.octets.specs.Number.{number};
-ghost use Rattle.der.specs.Element.{whole as wholeOf, contents as contentsOf, inside};
+ghost use Rattle.der.specs.Element.{encoding as encodingOf, contents as contentsOf, inside};
 ghost use Rattle.envelope.specs.Given.{givenFirst};
 ghost use Rattle.message.specs.Fields.{targetIn, updatesIn, entryOf};
-ghost use Rattle.message.specs.Rows.{row-36, row-127, asksForm, unwrapped, received};
+ghost use Rattle.message.specs.Rows.{row-36, row-127, hasTerse, unwrapped, received};
 ghost use Rattle.message.specs.Names.{namesIn};
-ghost use Rattle.message.specs.Target.{blockNames, entryNames, moduleNames, names, targetOf};
+ghost use Rattle.message.specs.Target.{blockNames, entryNames, moduleNames, namesDevice, targetOf};
 use der::Element;
 use der::Fit;
 use envelope::Envelope;
@@ -67,8 +67,8 @@ fn body_fit(kind: TampType, s: &[u8], e: Element) -> Fit
     syntax::fits(Form::Message(kind), s, e.start, e.stop, e.at)
 }
 
-fn asks_form(kind: TampType) -> bool
-    ensures { λ r. ⌜ r ≡ asksForm kind ⌝ }
+fn has_terse(kind: TampType) -> bool
+    ensures { λ r. ⌜ r ≡ hasTerse kind ⌝ }
 {
     match kind {
         TampType::StatusQuery => true,
@@ -82,11 +82,11 @@ fn asks_form(kind: TampType) -> bool
 fn wants_verbose(kind: TampType, s: &[u8], body: Element) -> bool
     ensures { λ r. ⌜ r ≡ row-127 kind (now (s .entry)) body ⌝ }
 {
-    if !asks_form(kind) {
+    if !has_terse(kind) {
         return false;
     }
-    let terse = der::field(s, body, 0x81);
-    !terse.good
+    let terse = der::field(s, body, der::CONTEXT_1);
+    !terse.valid
 }
 
 // What the rows give, else what is asked.
@@ -100,18 +100,18 @@ fn passed(given: Given, q: Request) -> Received
 }
 
 // What is in the wrapper, by the rows 36, 31 and 127.
-pub fn unwrap(s: &[u8], w: Signed) -> Received
+fn unwrap(s: &[u8], w: Signed) -> Received
     ensures { λ r. ⌜ r ≡ unwrapped (now (s .entry)) w ⌝ }
 {
     let kind = w.kind;
     let about = w.msgtype;
     let content = w.content;
     let body = der::element_at(s, content.start, content.stop);
-    let version = der::field(s, body, 0x80);
-    let msgref = der::field(s, body, 0x30);
+    let version = der::field(s, body, der::CONTEXT_0);
+    let msgref = der::field(s, body, der::SEQUENCE);
     let given = Given::Nothing
         .or_at(body_fit(kind, s, content), Status::MALFORMED, about)
-        .or_if(version.good, Status::VERSION_NUMBER_MISMATCH, about)
+        .or_if(version.valid, Status::VERSION_NUMBER_MISMATCH, about)
         .or_ref(wants_verbose(kind, s, body), Status::OTHER, about, msgref);
     let signer = w.signer;
     let attributes = w.attributes;
@@ -146,9 +146,9 @@ pub fn key_identifier(s: &[u8], q: Request) -> &[u8]
 }
 
 pub fn msg_ref(s: &[u8], q: Request) -> &[u8]
-    ensures { λ r. ⌜ now r ≡ wholeOf (now (s .entry)) (q .msgref) ⌝ }
+    ensures { λ r. ⌜ now r ≡ encodingOf (now (s .entry)) (q .msgref) ⌝ }
 {
-    der::whole(s, q.msgref)
+    der::encoding(s, q.msgref)
 }
 
 pub fn target_in(s: &[u8], msgref: Element) -> Element
@@ -158,9 +158,9 @@ pub fn target_in(s: &[u8], msgref: Element) -> Element
 }
 
 pub fn target_octets(s: &[u8], q: Request) -> &[u8]
-    ensures { λ r. ⌜ now r ≡ wholeOf (now (s .entry)) (targetIn (now (s .entry)) (q .msgref)) ⌝ }
+    ensures { λ r. ⌜ now r ≡ encodingOf (now (s .entry)) (targetIn (now (s .entry)) (q .msgref)) ⌝ }
 {
-    der::whole(s, target_in(s, q.msgref))
+    der::encoding(s, target_in(s, q.msgref))
 }
 
 // The number in the contents of an INTEGER, of 8 octets at most.
@@ -174,29 +174,29 @@ pub fn number_in(s: &[u8], e: Element) -> u64
 pub fn updates_in(s: &[u8], body: Element, msgref: Element) -> Element
     ensures { λ r. ⌜ r ≡ updatesIn (now (s .entry)) body msgref ⌝ }
 {
-    der::field_behind(s, body, msgref, 0x30)
+    der::field_after(s, body, msgref, der::SEQUENCE)
 }
 
 // An entry of an Update.
 pub fn entry_of(s: &[u8], e: Element) -> Entry
     ensures { λ r. ⌜ r ≡ entryOf (now (s .entry)) e ⌝ }
 {
-    if e.tag == 0xA1 {
+    if e.tag == der::CONSTRUCTED_1 {
         let choice = der::element_at(s, e.start, e.stop);
-        if choice.tag == 0xA2 {
-            let info = der::field(s, choice, 0x30);
+        if choice.tag == der::CONSTRUCTED_2 {
+            let info = der::field(s, choice, der::SEQUENCE);
             return Entry::Add(info);
         }
         return Entry::AddCertificate;
     }
-    if e.tag == 0xA2 {
+    if e.tag == der::CONSTRUCTED_2 {
         return Entry::Remove(e);
     }
     Entry::Change
 }
 
 // How many elements are inside e: the entries of an Update.
-pub fn count(s: &[u8], e: Element) -> usize
+pub fn entry_count(s: &[u8], e: Element) -> usize
     ensures { λ r. ⌜ r ≡ length (inside (now (s .entry)) e) ⌝ }
 {
     let stop = e.stop;
@@ -230,14 +230,14 @@ fn block_names(serial: &[u8], low: &[u8], high: &[u8]) -> bool
 fn entry_names(serial: &[u8], s: &[u8], e: Element) -> bool
     ensures { λ r. ⌜ r ≡ entryNames (now (serial .entry)) (now (s .entry)) e ⌝ }
 {
-    if e.tag == 0x05 {
+    if e.tag == der::NULL {
         return true;
     }
-    if e.tag == 0x04 {
+    if e.tag == der::OCTET_STRING {
         return octets::equal(der::contents(s, e), serial);
     }
-    let low = der::field(s, e, 0x04);
-    let high = der::field_behind(s, e, low, 0x04);
+    let low = der::field(s, e, der::OCTET_STRING);
+    let high = der::field_after(s, e, low, der::OCTET_STRING);
     block_names(serial, der::contents(s, low), der::contents(s, high))
 }
 
@@ -261,10 +261,13 @@ fn any_entry(serial: &[u8], s: &[u8], entries: Element) -> bool
 fn module_names(hwtype: &[u8], serial: &[u8], s: &[u8], m: Element) -> bool
     ensures { λ r. ⌜ r ≡ moduleNames (now (hwtype .entry)) (now (serial .entry)) (now (s .entry)) m ⌝ }
 {
-    if !octets::equal(der::contents(s, der::field(s, m, 0x06)), hwtype) {
+    if !octets::equal(
+        der::contents(s, der::field(s, m, der::OBJECT_IDENTIFIER)),
+        hwtype,
+    ) {
         return false;
     }
-    any_entry(serial, s, der::field(s, m, 0x30))
+    any_entry(serial, s, der::field(s, m, der::SEQUENCE))
 }
 
 // Whether one of the modules names the device.
@@ -295,15 +298,15 @@ fn end_of(at: usize, n: usize, size: usize) -> usize
     at + n
 }
 
-// Whether o is one of the names, which stand one behind the other: a length of one octet, and as many octets.
-pub fn is_among(o: &[u8], names: &[u8]) -> bool
+// Whether o is one of the names, which stand one after the other: a length of one octet, and as many octets.
+fn is_among(o: &[u8], names: &[u8]) -> bool
     ensures { λ r. ⌜ r ≡ member (now (o .entry)) (namesIn (now (names .entry))) ⌝ }
 {
     let mut i = 0;
     while i < names.len() {
         let at = i + 1;
         let end = end_of(at, octets::wide(names[i]), names.len());
-        if octets::equal(o, octets::part(names, at, end)) {
+        if octets::equal(o, octets::slice(names, at, end)) {
             return true;
         }
         i = end;
@@ -331,12 +334,12 @@ fn any_community(communities: &[u8], s: &[u8], t: Element) -> bool
 // "allModules; a community in the store; or the same hwType with .."
 fn names_device(hwtype: &[u8], serial: &[u8], communities: &[u8], s: &[u8], t: Element) -> bool
     ensures { λ r.
-        ⌜ r ≡ names (now (hwtype .entry)) (now (serial .entry)) (namesIn (now (communities .entry))) (now (s .entry)) t ⌝ }
+        ⌜ r ≡ namesDevice (now (hwtype .entry)) (now (serial .entry)) (namesIn (now (communities .entry))) (now (s .entry)) t ⌝ }
 {
-    if t.tag == 0x83 {
+    if t.tag == der::CONTEXT_3 {
         return true;
     }
-    if t.tag == 0xA2 {
+    if t.tag == der::CONSTRUCTED_2 {
         return any_community(communities, s, t);
     }
     any_module(hwtype, serial, s, t)
@@ -353,10 +356,10 @@ pub fn judge_target(
     ensures { λ r.
         ⌜ r ≡ targetOf (now (hwtype .entry)) (now (serial .entry)) (namesIn (now (communities .entry))) (now (s .entry)) t ⌝ }
 {
-    if t.tag == 0x84 {
+    if t.tag == der::CONTEXT_4 {
         return Target::Unsupported;
     }
-    if t.tag == 0xA5 {
+    if t.tag == der::CONSTRUCTED_5 {
         return Target::Unsupported;
     }
     if names_device(hwtype, serial, communities, s, t) {

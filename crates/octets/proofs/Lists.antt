@@ -7,7 +7,7 @@ use mathlib.Core.Path.{_≡_, refl, sym, _∙_, ap, ap₂}
 use lib.ListN.{length}
 use lib.Dec.{eqb}
 use borrow.Author.Tests.{eqb-true, eq-eqb}
-use Rattle.octets.specs.Lists.{allOf, anyOf, keep, distinctBy}
+use Rattle.octets.specs.Lists.{allOf, anyOf, filter, distinctBy}
 use Rattle.octets.specs.Octets.{same, member, distinct}
 
 -- a test has one of two answers, and each case knows which
@@ -69,16 +69,16 @@ module _ {A : Type 0} where
       let h = and-eq-true-iff (p x) (allOf p l) .0 e in
       both (f x (h .0)) (allOf-weaken p q f l (h .1))
 
-  pub keep-in : (p : A → Bool) (x : A) (l : List A) → p x ≡ true → keep p (x ∷ l) ≡ x ∷ keep p l
-  unfolding keep
-  keep-in p x l e = rw (e, keep)
+  pub keep-in : (p : A → Bool) (x : A) (l : List A) → p x ≡ true → filter p (x ∷ l) ≡ x ∷ filter p l
+  unfolding filter
+  keep-in p x l e = rw (e, filter)
 
-  pub keep-out : (p : A → Bool) (x : A) (l : List A) → p x ≡ false → keep p (x ∷ l) ≡ keep p l
-  unfolding keep
-  keep-out p x l e = rw (e, keep)
+  pub keep-out : (p : A → Bool) (x : A) (l : List A) → p x ≡ false → filter p (x ∷ l) ≡ filter p l
+  unfolding filter
+  keep-out p x l e = rw (e, filter)
 
-  pub keep-length : (p : A → Bool) (l : List A) → length (keep p l) ≤ length l
-  unfolding keep
+  pub keep-length : (p : A → Bool) (l : List A) → length (filter p l) ≤ length l
+  unfolding filter
   keep-length p [] = omega arith
   keep-length p (x ∷ l) =
       let h = keep-length p l in
@@ -116,8 +116,8 @@ allOf-member p (x ∷ l) k e m =
     let h = and-eq-true-iff (p x) (allOf p l) .0 e in
     member-cases k x l m (λ q. rw q (h .0)) (allOf-member p l k (h .1))
 
-pub keep-member : (p : List ℕ → Bool) (l : List (List ℕ)) (k : List ℕ) → member k l ≡ true → p k ≡ true → member k (keep p l) ≡ true
-unfolding member anyOf keep
+pub keep-member : (p : List ℕ → Bool) (l : List (List ℕ)) (k : List ℕ) → member k l ≡ true → p k ≡ true → member k (filter p l) ≡ true
+unfolding member anyOf filter
 keep-member p [] k m e = m
 keep-member p (x ∷ l) k m e =
     member-cases
@@ -125,15 +125,15 @@ keep-member p (x ∷ l) k m e =
     x
     l
     m
-    (λ q. rw (keep-in p x l (ap p (sym q) ∙ e), q) (member-head x (keep p l)))
+    (λ q. rw (keep-in p x l (ap p (sym q) ∙ e), q) (member-head x (filter p l)))
     (λ h.
     by-test (p x)
-    (λ t. rw (keep-in p x l t) (member-tail k x (keep p l) (keep-member p l k h e)))
+    (λ t. rw (keep-in p x l t) (member-tail k x (filter p l) (keep-member p l k h e)))
     (λ t. rw (keep-out p x l t) (keep-member p l k h e)))
 
 -- a list that loses a member is shorter
-pub keep-shorter : (p : List ℕ → Bool) (l : List (List ℕ)) (k : List ℕ) → member k l ≡ true → p k ≡ false → length (keep p l) < length l
-unfolding member anyOf keep
+pub keep-shorter : (p : List ℕ → Bool) (l : List (List ℕ)) (k : List ℕ) → member k l ≡ true → p k ≡ false → length (filter p l) < length l
+unfolding member anyOf filter
 keep-shorter p [] k m e = absurd (false≢true m)
 keep-shorter p (x ∷ l) k m e =
     member-cases

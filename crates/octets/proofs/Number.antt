@@ -1,6 +1,7 @@
 -- Laws of numbers in octets, over any width.
 use Prim.Native.Nat.{ℕ, zero, suc, _+_, _-_, _*_, _/_, _%_, _^_, _≤_, _<_}
-use native.Mathlib.Nat.{div-add-mod', div-lt-iff-lt-mul, mod-lt, mul-assoc, mul-one, one-mul, pow-suc, pow-succ', pow-zero, le-refl, lt-of-lt-of-le, pow-le-pow-right}
+use native.Mathlib.Nat.{div-add-mod', div-lt-iff-lt-mul, mod-lt, mul-assoc, mul-one, one-mul, pow-suc, pow-succ', pow-zero, le-refl, lt-of-lt-of-le}
+use native.Mathlib.Nat.{pow-le-pow-right}
 use native.Mathlib.Numerals.{add-one}
 use native.Mathlib.Omega.{arith}
 use mathlib.Core.List.{List, [], _∷_, _++_}

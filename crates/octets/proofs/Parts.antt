@@ -5,23 +5,23 @@ use mathlib.Core.List.{List, []}
 use mathlib.Core.Path.{_≡_, ap, _∙_}
 use lib.ListN.{length, getD, take, drop, length-drop, drop-of-length-le}
 use lib.Seq.{length-take-le, take-all, take-nil, getD-take, getD-drop}
-use Rattle.octets.specs.Octets.{part}
+use Rattle.octets.specs.Octets.{slice}
 
 module _ (s : List ℕ) where
-  pub length-part : (a n : ℕ) → a + n ≤ length s → length (take n (drop a s)) ≡ n
-  length-part a n h = length-take-le n (drop a s) (rw (length-drop a s) (omega arith))
+  pub length-slice : (a n : ℕ) → a + n ≤ length s → length (take n (drop a s)) ≡ n
+  length-slice a n h = length-take-le n (drop a s) (rw (length-drop a s) (omega arith))
 
-  pub octet-part : (a n i : ℕ) → i < n → getD (take n (drop a s)) i 0 ≡ getD s (a + i) 0
-  octet-part a n i l = getD-take n (drop a s) i 0 l ∙ getD-drop a s i 0
+  pub octet-slice : (a n i : ℕ) → i < n → getD (take n (drop a s)) i 0 ≡ getD s (a + i) 0
+  octet-slice a n i l = getD-take n (drop a s) i 0 l ∙ getD-drop a s i 0
 
-  -- a part that asks for no octet, one that begins behind the end, and one that goes on behind it
-  pub part-none : (a e : ℕ) → e ≤ a → part s a e ≡ []
-  part-none a e h =
+  -- a part that asks for no octet, one that begins after the end, and one that goes on after it
+  pub slice-none : (a e : ℕ) → e ≤ a → slice s a e ≡ []
+  slice-none a e h =
       let z : e - a ≡ 0 = omega arith in
       rw z
 
-  pub part-behind : (a e : ℕ) → length s ≤ a → part s a e ≡ []
-  part-behind a e h = ap (take (e - a)) (drop-of-length-le s h) ∙ take-nil (e - a)
+  pub slice-after : (a e : ℕ) → length s ≤ a → slice s a e ≡ []
+  slice-after a e h = ap (take (e - a)) (drop-of-length-le s h) ∙ take-nil (e - a)
 
-  pub part-rest : (a e : ℕ) → length s ≤ e → part s a e ≡ drop a s
-  part-rest a e h = take-all (e - a) (drop a s) (rw (length-drop a s) (omega arith))
+  pub slice-rest : (a e : ℕ) → length s ≤ e → slice s a e ≡ drop a s
+  slice-rest a e h = take-all (e - a) (drop a s) (rw (length-drop a s) (omega arith))

@@ -6,7 +6,8 @@ use native.Mathlib.Omega.{arith}
 use mathlib.Core.List.{List, [], _∷_, _++_, append-assoc}
 use mathlib.Core.Path.{_≡_, refl, sym, ap, ap₂, _∙_}
 use lib.ListN.{length, getD, take, drop, set, length-append, length-take, length-drop, length-set, take-append-drop}
-use lib.Seq.{length-take-le, take-at, drop-at, take-take, drop-drop, drop-append-add, set-split, take-suc, take-set-le, getD-take, getD-drop, append-snoc, take-length}
+use lib.Seq.{length-take-le, take-at, drop-at, take-take, drop-drop, drop-append-add, set-split, take-suc, take-set-le, getD-take, getD-drop, append-snoc}
+use lib.Seq.{take-length}
 use Rattle.octets.specs.Octets.{placed}
 
 module _ (d : List ℕ) (at : ℕ) (s : List ℕ) where
@@ -20,9 +21,9 @@ module _ (d : List ℕ) (at : ℕ) (s : List ℕ) where
   unfolding placed
   drop-placed h = drop-at (take at d) (s ++ drop (at + length s) d) at (length-take-le at d h)
 
-  -- what stands behind s
-  pub drop-behind-placed : (n : ℕ) → at + length s ≤ n → at ≤ length d → drop n (placed d at s) ≡ drop n d
-  drop-behind-placed n k h =
+  -- what stands after s
+  pub drop-after-placed : (n : ℕ) → at + length s ≤ n → at ≤ length d → drop n (placed d at s) ≡ drop n d
+  drop-after-placed n k h =
       let m : at + (n - at) ≡ n = omega arith in
       let j : n - at ≡ length s + (n - at - length s) = omega arith in
       let o : at + length s + (n - at - length s) ≡ n = omega arith in
@@ -34,9 +35,9 @@ module _ (d : List ℕ) (at : ℕ) (s : List ℕ) where
       ∙ ap (λ (k : ℕ). drop k d) o
 
   -- what stands up to the end of s
-  pub take-behind-placed : at ≤ length d → take (at + length s) (placed d at s) ≡ take at d ++ s
+  pub take-after-placed : at ≤ length d → take (at + length s) (placed d at s) ≡ take at d ++ s
   unfolding placed
-  take-behind-placed h =
+  take-after-placed h =
       rw (← append-assoc (take at d) s (drop (at + length s) d))
       (take-at
       (take at d ++ s)
@@ -59,8 +60,8 @@ pub placed-append : (d : List ℕ) (at : ℕ) (s t : List ℕ) (n : ℕ) → at 
     → placed (placed d at s) n t ≡ placed d at (s ++ t)
 unfolding placed
 placed-append d at s t n e h =
-    let a : take n (placed d at s) ≡ take at d ++ s = ap (λ (k : ℕ). take k (placed d at s)) (sym e) ∙ take-behind-placed d at s (omega arith) in
-    let b : drop (n + length t) (placed d at s) ≡ drop (n + length t) d = drop-behind-placed d at s (n + length t) (omega arith) (omega arith) in
+    let a : take n (placed d at s) ≡ take at d ++ s = ap (λ (k : ℕ). take k (placed d at s)) (sym e) ∙ take-after-placed d at s (omega arith) in
+    let b : drop (n + length t) (placed d at s) ≡ drop (n + length t) d = drop-after-placed d at s (n + length t) (omega arith) (omega arith) in
     let l : at + length (s ++ t) ≡ n + length t = rw (length-append s t) (omega arith) in
     rw (a, b, l) (simp append-assoc)
 
@@ -89,18 +90,18 @@ up-rest d at m i p h l k =
     let z : p + 0 ≡ p = add-zero p in
     rw (← z)
     (sym (getD-drop p (placed d at (take i m)) 0 0)
-    ∙ ap (λ (r : List ℕ). getD r 0 0) (drop-behind-placed d at (take i m) p (omega arith) (omega arith))
+    ∙ ap (λ (r : List ℕ). getD r 0 0) (drop-after-placed d at (take i m) p (omega arith) (omega arith))
     ∙ getD-drop p d 0 0)
 
 -- A copy from the last octet on: of the octets m all but the first j stand there.
 pub record Down (d₀ : List ℕ) (at : ℕ) (m : List ℕ) (j : ℕ) (d : List ℕ) : Type 0 where
   pub size : length d ≡ length d₀
   pub before : take (at + j) d ≡ take (at + j) d₀
-  pub behind : take j m ++ drop (at + j) d ≡ m ++ drop (at + length m) d₀
+  pub after : take j m ++ drop (at + j) d ≡ m ++ drop (at + length m) d₀
 
 module _ (d₀ : List ℕ) (at : ℕ) (m : List ℕ) (room : at + length m ≤ length d₀) where
   pub down-start : (j : ℕ) → length m ≡ j → Down d₀ at m j d₀
-  down-start j e = rw (← e) (record { size = refl; before = refl; behind = rw (take-length m) })
+  down-start j e = rw (← e) (record { size = refl; before = refl; after = rw (take-length m) })
 
   -- what it has not reached yet is as it was
   pub down-rest : (d : List ℕ) (j p : ℕ) → Down d₀ at m j d → p < at + j → getD d p 0 ≡ getD d₀ p 0
@@ -129,15 +130,15 @@ module _ (d₀ : List ℕ) (at : ℕ) (m : List ℕ) (room : at + length m ≤ l
       record {
         size = length-set d (at + i) x ∙ s .size;
         before = f;
-        behind =
+        after =
             ap (λ (r : List ℕ). take i m ++ r) g
             ∙ sym (append-snoc (take i m) x (drop (at + j) d))
             ∙ ap (λ (r : List ℕ). r ++ drop (at + j) d) (sym t)
-            ∙ s .behind;
+            ∙ s .after;
       }
 
   pub down-end : (d : List ℕ) → Down d₀ at m 0 d → d ≡ placed d₀ at m
   unfolding placed
   down-end d s =
       let z : at + 0 ≡ at = add-zero at in
-      sym (take-append-drop at d) ∙ ap₂ _++_ (rw z at (s .before)) (rw z at (s .behind))
+      sym (take-append-drop at d) ∙ ap₂ _++_ (rw z at (s .before)) (rw z at (s .after))

@@ -5,7 +5,7 @@ use Prim.Native.String.{String, len, charAt}
 use mathlib.Core.Bool.{true, false}
 use mathlib.Core.List.{List, [], _∷_}
 use lib.Dec.{ltb, leb}
-use Rattle.octets.specs.Lists.{keep}
+use Rattle.octets.specs.Lists.{filter}
 
 unfoldable pub codesFrom : ℕ → ℕ → String → List ℕ
 codesFrom zero i t = []
@@ -26,4 +26,4 @@ digitPairs (x ∷ y ∷ s) = (digitValue x * 16 + digitValue y) ∷ digitPairs s
 
 -- octets as the papers write them: two digits each, blanks and line ends between them passed over
 unfoldable pub octetsOf : String → List ℕ
-octetsOf t = digitPairs (keep (leb 48) (ascii t))
+octetsOf t = digitPairs (filter (leb 48) (ascii t))

@@ -14,5 +14,5 @@ abbrev pub refuses : Status → Bool
 refuses status = ltb 0 (status .number)
 
 -- the status of the rows so far, else that of one more by its test
-unfoldable pub orIf : Status → Bool → Status → Status
-orIf former applies status = givenIf (refuses former) former (givenIf applies status former)
+unfoldable pub orStatus : Status → Bool → Status → Status
+orStatus former applies status = givenIf (refuses former) former (givenIf applies status former)

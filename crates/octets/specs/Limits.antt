@@ -9,8 +9,8 @@ abbrev pub maxCommunities : ℕ
 maxCommunities = 16
 
 -- hwType, serial and a community's OID contents, in octets
-abbrev pub maxName : ℕ
-maxName = 32
+abbrev pub maxNameOctets : ℕ
+maxNameOctets = 32
 
 -- a TrustAnchorInfo, in octets
 abbrev pub maxAnchorOctets : ℕ

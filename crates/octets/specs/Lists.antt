@@ -14,9 +14,9 @@ module _ {A : Type 0} where
   anyOf p (x ∷ l) = p x || anyOf p l
 
   -- the members that pass, in order
-  unfoldable pub keep : (A → Bool) → List A → List A
-  keep p [] = []
-  keep p (x ∷ l) = elim (p x) [ true ↦ x ∷ keep p l | false ↦ keep p l ]
+  unfoldable pub filter : (A → Bool) → List A → List A
+  filter p [] = []
+  filter p (x ∷ l) = elim (p x) [ true ↦ x ∷ filter p l | false ↦ filter p l ]
 
   -- no two members of which the test says that they agree
   unfoldable pub distinctBy : (A → A → Bool) → List A → Bool

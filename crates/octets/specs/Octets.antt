@@ -10,13 +10,13 @@ use Rattle.octets.specs.Lists.{anyOf, distinctBy}
 abbrev pub Octets : List ℕ → Type 0
 Octets s = (i : ℕ) → getD s i 0 < 256
 
--- the octet at a place, 0 behind the end
+-- the octet at a place, 0 after the end
 abbrev pub octet : List ℕ → ℕ → ℕ
 octet s i = getD s i 0
 
 -- the octets from place a up to place e
-abbrev pub part : List ℕ → ℕ → ℕ → List ℕ
-part s a e = take (e - a) (drop a s)
+abbrev pub slice : List ℕ → ℕ → ℕ → List ℕ
+slice s a e = take (e - a) (drop a s)
 
 -- two octet strings are equal ("values compare as octets")
 unfoldable pub same : List ℕ → List ℕ → Bool
@@ -32,7 +32,7 @@ member k l = anyOf (same k) l
 unfoldable pub distinct : List (List ℕ) → Bool
 distinct l = distinctBy same l
 
--- X.690, 11.6: s does not stand behind t in the order of a SET OF, octet by octet. The padding with zeros that X.690 names never decides between encodings,
+-- X.690, 11.6: s does not stand after t in the order of a SET OF, octet by octet. The padding with zeros that X.690 names never decides between encodings,
 -- since none is a proper beginning of another.
 unfoldable pub ordered : List ℕ → List ℕ → Bool
 ordered [] t = true
@@ -43,6 +43,6 @@ ordered (x ∷ s) (y ∷ t) = ltb x y || (eqb x y && ordered s t)
 unfoldable pub placed : List ℕ → ℕ → List ℕ → List ℕ
 placed d at s = take at d ++ (s ++ drop (at + length s) d)
 
--- 01, Answers: what a lent buffer holds after the call: what was written, then what stood behind it
+-- 01, Answers: what a lent buffer holds after the call: what was written, then what stood after it
 abbrev pub written : List ℕ → List ℕ → List ℕ
 written old new = placed old 0 new

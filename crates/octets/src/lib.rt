@@ -2,8 +2,8 @@
 ghost use mathlib.Core.Path.{_≡_};
 ghost use Prim.Native.Nat.{_+_, _<_, _≤_, _^_, min};
 ghost use lib.ListN.{length, take, drop};
-ghost use Rattle.octets.specs.First.{refuses as isRefusal, orIf};
-ghost use Rattle.octets.specs.Octets.{same, ordered, part as partOf, placed};
+ghost use Rattle.octets.specs.First.{refuses as isRefusal, orStatus};
+ghost use Rattle.octets.specs.Octets.{same, ordered, slice as sliceOf, placed};
 ghost use Rattle.octets.specs.Number.{number, bigEndian, digits};
 
 // The limits of 01 (specs/Limits), each under one name.
@@ -13,7 +13,7 @@ pub const MAX_ANCHORS: usize = 32;
 
 pub const MAX_COMMUNITIES: usize = 16;
 
-pub const MAX_NAME: usize = 32;
+pub const MAX_NAME_OCTETS: usize = 32;
 
 pub const MAX_ANCHOR_OCTETS: usize = 1024;
 
@@ -126,7 +126,7 @@ impl Status {
 
     // "The first that applies is given": this one where it refuses, else the next where its row applies.
     pub fn or_if(self, applies: bool, next: Status) -> Status
-        ensures { λ r. ⌜ r ≡ orIf self applies next ⌝ }
+        ensures { λ r. ⌜ r ≡ orStatus self applies next ⌝ }
     {
         if self.refuses() {
             return self;
@@ -155,7 +155,7 @@ pub fn equal(a: &[u8], b: &[u8]) -> bool
     true
 }
 
-// The order of a SET OF (X.690, 11.6): a does not stand behind b.
+// The order of a SET OF (X.690, 11.6): a does not stand after b.
 pub fn in_order(a: &[u8], b: &[u8]) -> bool
     ensures { λ r. ⌜ r ≡ ordered (now (a .entry)) (now (b .entry)) ⌝ }
 {
@@ -176,8 +176,8 @@ pub fn in_order(a: &[u8], b: &[u8]) -> bool
 }
 
 // The octets from place a up to place e, as a part of the caller's slice; none where there are none.
-pub fn part(s: &[u8], a: usize, e: usize) -> &[u8]
-    ensures { λ r. ⌜ now r ≡ partOf (now (s .entry)) a e ⌝ }
+pub fn slice(s: &[u8], a: usize, e: usize) -> &[u8]
+    ensures { λ r. ⌜ now r ≡ sliceOf (now (s .entry)) a e ⌝ }
 {
     let n = s.len();
     if e <= n {

@@ -13,11 +13,11 @@ use Rattle.message.specs.declared.Request.{Request}
 use Rattle.message.specs.declared.Received.{Received}
 use Rattle.message.specs.declared.Received.the-variants.{Asks, Refused}
 use Rattle.message.specs.Rows.{received}
-use Rattle.store.specs.declared.Found.{Found}
-use Rattle.store.specs.declared.Found.the-variants as found
+use Rattle.store.specs.declared.FoundSigner.{FoundSigner}
+use Rattle.store.specs.declared.FoundSigner.the-variants as found
 use Rattle.protocol.specs.declared.Judgement.{Judgement}
 use Rattle.protocol.specs.declared.Judgement.the-variants.{Refuses, Accepts}
-use Rattle.protocol.specs.Acceptance.{weighed, bySigner, judgementOf, judgement}
+use Rattle.protocol.specs.Acceptance.{judgedAt, bySigner, judgementOf, judgement}
 use Rattle.protocol.specs.Effect.{effect}
 use Rattle.protocol.specs.Call.{Outcome, refused, answered, answerOf, guarded, callOn, callOf, call}
 use Rattle.protocol.proofs.Lists.{given-next}
@@ -68,14 +68,14 @@ module _ (s image verdict : List ℕ) (replyLent nextLent : ℕ) {status : Statu
 
 -- an accepted message asks what was accepted
 module _ (σ : Store) (s : List ℕ) {q : Request} {i : ℕ} where
-  weighed-asks : (q′ : Request) (j : ℕ) → weighed σ s q′ j ≡ Accepts q i → q′ ≡ q
-  unfolding weighed
+  weighed-asks : (q′ : Request) (j : ℕ) → judgedAt σ s q′ j ≡ Accepts q i → q′ ≡ q
+  unfolding judgedAt
   weighed-asks q′ j e = let z = row _ _ _ (row _ _ _ (row _ _ _ e)) in cc
     where
       row : (b : Bool) (r : Refusal) (j : Judgement) → givenIf b (Refuses r) j ≡ Accepts q i → j ≡ Accepts q i
       row b r j e = given-next b (Refuses r) j Refuses≢Accepts e
 
-  signer-asks : (q′ : Request) (f : Found) → bySigner σ s q′ f ≡ Accepts q i → q′ ≡ q
+  signer-asks : (q′ : Request) (f : FoundSigner) → bySigner σ s q′ f ≡ Accepts q i → q′ ≡ q
   unfolding bySigner
   signer-asks q′ (found.At j) e = weighed-asks q′ j e
   signer-asks q′ found.Unverified e = absurd (Refuses≢Accepts e)

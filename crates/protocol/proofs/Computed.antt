@@ -3,7 +3,7 @@ unfoldable computed-octets : Unit {0}
 unfolding
     mathlib.Core.List.flatMap mathlib.Core.Option.Option·elim mathlib.Core.Option.orElse Rattle.octets.specs.Ascii.codesFrom
     Rattle.octets.specs.Ascii.ascii Rattle.octets.specs.Ascii.digitValue Rattle.octets.specs.Ascii.digitPairs Rattle.octets.specs.Ascii.octetsOf
-    Rattle.octets.specs.First.givenIf Rattle.octets.specs.Lists.allOf Rattle.octets.specs.Lists.anyOf Rattle.octets.specs.Lists.keep
+    Rattle.octets.specs.First.givenIf Rattle.octets.specs.Lists.allOf Rattle.octets.specs.Lists.anyOf Rattle.octets.specs.Lists.filter
     Rattle.octets.specs.Lists.distinctBy Rattle.octets.specs.Number.numberFrom Rattle.octets.specs.Number.bigEndian
     Rattle.octets.specs.Number.digits Rattle.octets.specs.Octets.same Rattle.octets.specs.Octets.member Rattle.octets.specs.Octets.distinct
     Rattle.octets.specs.Octets.ordered Rattle.octets.specs.Octets.placed
@@ -27,7 +27,7 @@ computed-syntax = tt
 
 unfoldable computed-rights : Unit {0}
 unfolding
-    Rattle.rights.specs.Attributes.weighed Rattle.rights.specs.Attributes.pairs Rattle.rights.specs.Constraints.attrConstraint
+    Rattle.rights.specs.Attributes.isOtherAttribute Rattle.rights.specs.Attributes.pairs Rattle.rights.specs.Constraints.attrConstraint
     Rattle.rights.specs.Constraints.contentTypeConstraint Rattle.rights.specs.Constraints.constraintsRights Rattle.rights.specs.Decision.oid
     Rattle.rights.specs.Decision.integer Rattle.rights.specs.Decision.freshFrom Rattle.rights.specs.Decision.fresh
     Rattle.rights.specs.Decision.keys Rattle.rights.specs.Decision.findSome Rattle.rights.specs.Decision.unlisted
@@ -44,7 +44,7 @@ unfoldable computed-anchor : Unit {0}
 unfolding
     Rattle.anchor.specs.Info.version Rattle.anchor.specs.Info.publicKey Rattle.anchor.specs.Info.keyIdField
     Rattle.anchor.specs.Info.certPath Rattle.anchor.specs.Info.extensions Rattle.anchor.specs.Info.constraintsIn
-    Rattle.anchor.specs.Info.constraintsExtension Rattle.anchor.specs.Info.rightsOf Rattle.anchor.specs.Judge.statusOf
+    Rattle.anchor.specs.Info.constraintsExtension Rattle.anchor.specs.Info.rightsOf Rattle.anchor.specs.Judge.checkStatus
     Rattle.anchor.specs.Judge.conforms Rattle.anchor.specs.Judge.repeatedExtension Rattle.anchor.specs.Judge.criticalExtension
     Rattle.anchor.specs.Judge.badConstraints Rattle.anchor.specs.Judge.repeatedConstraint Rattle.anchor.specs.Judge.anyContentTypeUnlike
     Rattle.anchor.specs.Judge.identifierOutside Rattle.anchor.specs.Judge.overEntries Rattle.anchor.specs.Judge.overAttributes
@@ -90,9 +90,9 @@ unfolding
     Rattle.message.specs.Fields.updatesIn Rattle.message.specs.Fields.entryOf Rattle.message.specs.Fields.entriesIn
     Rattle.message.specs.Fields.keyIn Rattle.message.specs.Fields.seqNumbersIn Rattle.message.specs.Fields.removeIn
     Rattle.message.specs.Fields.oidsIn Rattle.message.specs.Fields.additionsIn Rattle.message.specs.Rows.row-36 Rattle.message.specs.Rows.row-31
-    Rattle.message.specs.Rows.asksForm Rattle.message.specs.Rows.row-127 Rattle.message.specs.Rows.unwrapped
+    Rattle.message.specs.Rows.hasTerse Rattle.message.specs.Rows.row-127 Rattle.message.specs.Rows.unwrapped
     Rattle.message.specs.Rows.receivedOf Rattle.message.specs.Rows.received Rattle.message.specs.Target.blockNames
-    Rattle.message.specs.Target.entryNames Rattle.message.specs.Target.moduleNames Rattle.message.specs.Target.names
+    Rattle.message.specs.Target.entryNames Rattle.message.specs.Target.moduleNames Rattle.message.specs.Target.namesDevice
     Rattle.message.specs.Target.targetOf Rattle.message.specs.Target.targetStatus
 computed-message = tt
 
@@ -106,12 +106,12 @@ unfoldable computed-tamp : Unit {0}
 unfolding
     Rattle.protocol.specs.Acceptance.foundStatus Rattle.protocol.specs.Acceptance.targetFor Rattle.protocol.specs.Acceptance.isNamed
     Rattle.protocol.specs.Acceptance.messageContent Rattle.protocol.specs.Acceptance.row-11 Rattle.protocol.specs.Acceptance.tooLow
-    Rattle.protocol.specs.Acceptance.row-21 Rattle.protocol.specs.Acceptance.weighed Rattle.protocol.specs.Acceptance.bySigner
+    Rattle.protocol.specs.Acceptance.row-21 Rattle.protocol.specs.Acceptance.judgedAt Rattle.protocol.specs.Acceptance.bySigner
     Rattle.protocol.specs.Acceptance.judgementOf Rattle.protocol.specs.Acceptance.judgement Rattle.protocol.specs.Call.row-202
     Rattle.protocol.specs.Call.row-203 Rattle.protocol.specs.Call.row-204 Rattle.protocol.specs.Call.row-205
     Rattle.protocol.specs.Call.refusalReply Rattle.protocol.specs.Call.answerOf Rattle.protocol.specs.Call.guarded
     Rattle.protocol.specs.Call.callOn Rattle.protocol.specs.Call.callOf Rattle.protocol.specs.Call.call
-    Rattle.protocol.specs.Call.numberOf Rattle.protocol.specs.Call.replyOf Rattle.protocol.specs.Call.nextOf
+    Rattle.protocol.specs.Call.outcomeNumber Rattle.protocol.specs.Call.replyOf Rattle.protocol.specs.Call.nextOf
     Rattle.protocol.specs.Call.replyBuffer Rattle.protocol.specs.Call.nextBuffer Rattle.protocol.specs.Community.afterRemovals
     Rattle.protocol.specs.Community.afterAdditions Rattle.protocol.specs.Community.communityStatus
     Rattle.protocol.specs.Community.communitiesAfter Rattle.protocol.specs.Effect.numberSet Rattle.protocol.specs.Effect.withNumber
@@ -127,7 +127,7 @@ unfolding
     Rattle.protocol.specs.PermitExamples.seasonRows Rattle.protocol.specs.PermitExamples.image
     Rattle.protocol.specs.NotEmpty.image Rattle.protocol.specs.NotEmpty.enrols
     Rattle.protocol.specs.Update.added Rattle.protocol.specs.Update.removed Rattle.protocol.specs.Update.step
-    Rattle.protocol.specs.Update.steps Rattle.protocol.specs.Update.stamped Rattle.protocol.specs.Update.allStamped
+    Rattle.protocol.specs.Update.steps Rattle.protocol.specs.Update.withSeqNumber Rattle.protocol.specs.Update.withSeqNumbers
     Rattle.protocol.specs.Permit.signedContent Rattle.protocol.specs.Permit.permitBy Rattle.protocol.specs.Permit.permitOn
     Rattle.protocol.specs.Permit.permitOf Rattle.protocol.specs.Permit.permit
 computed-tamp = tt

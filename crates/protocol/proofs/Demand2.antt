@@ -14,8 +14,8 @@ use Rattle.octets.specs.Limits.{maxUpdates}
 use Rattle.octets.specs.Octets.{Octets}
 use Rattle.octets.proofs.Lists.{by-test}
 use Rattle.der.specs.declared.Element.{Element}
-use Rattle.der.specs.Element.{whole}
-use Rattle.syntax.proofs.Rules.{octets-part}
+use Rattle.der.specs.Element.{encoding}
+use Rattle.syntax.proofs.Rules.{octets-slice}
 use Rattle.syntax.specs.declared.TampType.the-variants.{Update}
 use Rattle.rights.specs.Rights.{Rights, Outside}
 use Rattle.rights.proofs.Witness.{ValidRights, valid-outside}
@@ -64,12 +64,12 @@ module _ (s : List ℕ) (rights : Rights) (apex : Anchor) where
       ap suc (steps-count (d .old) (d .new) es)
 
   -- that of each add
-  steps-iff : (old new : List Anchor) (es : List Entry) (k : ℕ) (e : Element) → k < length es → getD es k entry.Change ≡ entry.Add e → passes (judge (whole s e)) ≡ true
-      → (getD (steps s rights apex old new es .statuses) k success ≡ notAuthorized) ↔ Outside rights (rightsOf (whole s e))
+  steps-iff : (old new : List Anchor) (es : List Entry) (k : ℕ) (e : Element) → k < length es → getD es k entry.Change ≡ entry.Add e → passes (judge (encoding s e)) ≡ true
+      → (getD (steps s rights apex old new es .statuses) k success ≡ notAuthorized) ↔ Outside rights (rightsOf (encoding s e))
   unfolding steps step
   steps-iff old new [] k e h g p = absurd (omega arith)
   steps-iff old new (x ∷ es) zero e h g p =
-      rw g (add-iff rights apex old new (whole s e) p)
+      rw g (add-iff rights apex old new (encoding s e) p)
   steps-iff old new (x ∷ es) (suc k) e h g p =
       let d = step s rights apex old new x in
       steps-iff (d .old) (d .new) es k e (omega arith) g p
@@ -92,7 +92,7 @@ module _ (s : List ℕ) (o : Octets s) (q : Request) (rights : Rights) (valid : 
         perEntry = steps-count s rights (σ .apex) (σ .others) [] (entriesOf s q);
         adds =
             λ k e h g p.
-            exactly valid (valid-rights (whole s e) (octets-part s (e .at) (e .stop) o) p) (steps-iff s rights (σ .apex) (σ .others) [] (entriesOf s q) k e h g p);
+            exactly valid (valid-rights (encoding s e) (octets-slice s (e .at) (e .stop) o) p) (steps-iff s rights (σ .apex) (σ .others) [] (entriesOf s q) k e h g p);
       })
 
 effect-confirms : (s : List ℕ) → Octets s → (q : Request) (i : ℕ) (σ : Store) → ValidRights (rightsAt σ i) → q .kind ≡ Update

@@ -7,7 +7,7 @@ use mathlib.Core.Path.{_≡_, refl, sym, _∙_, ap, ap₂}
 use lib.ListN.{length, getD}
 use Rattle.octets.specs.First.{givenIf}
 use borrow.Author.Tests.{not-true}
-use Rattle.octets.specs.Lists.{anyOf, allOf, keep, distinctBy}
+use Rattle.octets.specs.Lists.{anyOf, allOf, filter, distinctBy}
 use Rattle.octets.specs.Octets.{same, member, distinct}
 use Rattle.octets.proofs.Lists.{by-test, both, neither, anyOf-map, same-sym, allOf-weaken, keep-in, keep-out, member-append, distinct-parts}
 
@@ -24,37 +24,37 @@ module _ {A : Type 0} where
   given-next true x y n e = absurd (n e)
   given-next false x y n e = e
 
-  pub keep-cons : (p : A → Bool) (x : A) (a b : List A) → keep p a ≡ keep p b → keep p (x ∷ a) ≡ keep p (x ∷ b)
+  pub keep-cons : (p : A → Bool) (x : A) (a b : List A) → filter p a ≡ filter p b → filter p (x ∷ a) ≡ filter p (x ∷ b)
   keep-cons p x a b e =
       by-test (p x)
       (λ t. keep-in p x a t ∙ ap (λ r. x ∷ r) e ∙ sym (keep-in p x b t))
       (λ t. keep-out p x a t ∙ e ∙ sym (keep-out p x b t))
 
-  pub keep-append : (p : A → Bool) (a b : List A) → keep p (a ++ b) ≡ keep p a ++ keep p b
-  unfolding keep
+  pub keep-append : (p : A → Bool) (a b : List A) → filter p (a ++ b) ≡ filter p a ++ filter p b
+  unfolding filter
   keep-append p [] b = refl
   keep-append p (x ∷ a) b =
       let h = keep-append p a b in
       by-test (p x)
-      (λ t. keep-in p x (a ++ b) t ∙ ap (λ r. x ∷ r) h ∙ ap (λ r. r ++ keep p b) (sym (keep-in p x a t)))
-      (λ t. keep-out p x (a ++ b) t ∙ h ∙ ap (λ r. r ++ keep p b) (sym (keep-out p x a t)))
+      (λ t. keep-in p x (a ++ b) t ∙ ap (λ r. x ∷ r) h ∙ ap (λ r. r ++ filter p b) (sym (keep-in p x a t)))
+      (λ t. keep-out p x (a ++ b) t ∙ h ∙ ap (λ r. r ++ filter p b) (sym (keep-out p x a t)))
 
   -- a last member that does not pass
-  pub keep-last-out : (p : A → Bool) (a : List A) (x : A) → p x ≡ false → keep p (a ++ (x ∷ [])) ≡ keep p a
-  unfolding keep
-  keep-last-out p a x e = keep-append p a (x ∷ []) ∙ ap (λ r. keep p a ++ r) (keep-out p x [] e) ∙ append-nil (keep p a)
+  pub keep-last-out : (p : A → Bool) (a : List A) (x : A) → p x ≡ false → filter p (a ++ (x ∷ [])) ≡ filter p a
+  unfolding filter
+  keep-last-out p a x e = keep-append p a (x ∷ []) ∙ ap (λ r. filter p a ++ r) (keep-out p x [] e) ∙ append-nil (filter p a)
 
   -- where no member passes, none does once changed in what the test does not read
-  pub keep-map-none : (p : A → Bool) (f : A → A) → ((x : A) → p (f x) ≡ p x) → (l : List A) → keep p l ≡ [] → keep p (map f l) ≡ []
-  unfolding keep
+  pub keep-map-none : (p : A → Bool) (f : A → A) → ((x : A) → p (f x) ≡ p x) → (l : List A) → filter p l ≡ [] → filter p (map f l) ≡ []
+  unfolding filter
   keep-map-none p f same [] e = refl
   keep-map-none p f same (x ∷ l) e =
       by-test (p x)
       (λ t. let z = sym (keep-in p x l t) ∙ e in cc)
       (λ t. keep-out p (f x) (map f l) (same x ∙ t) ∙ keep-map-none p f same l (sym (keep-out p x l t) ∙ e))
 
-  pub keep-none : (p : A → Bool) → keep p [] ≡ []
-  unfolding keep
+  pub keep-none : (p : A → Bool) → filter p [] ≡ []
+  unfolding filter
   keep-none p = refl
 
   pub anyOf-append : (p : A → Bool) (a b : List A) → anyOf p (a ++ b) ≡ anyOf p a || anyOf p b
@@ -62,16 +62,16 @@ module _ {A : Type 0} where
   anyOf-append p [] b = refl
   anyOf-append p (x ∷ a) b = by-test (p x) (λ t. rw t) (λ t. rw t (anyOf-append p a b))
 
-  pub anyOf-keep : (p q : A → Bool) (l : List A) → anyOf p l ≡ false → anyOf p (keep q l) ≡ false
-  unfolding anyOf keep
+  pub anyOf-keep : (p q : A → Bool) (l : List A) → anyOf p l ≡ false → anyOf p (filter q l) ≡ false
+  unfolding anyOf filter
   anyOf-keep p q [] e = e
   anyOf-keep p q (x ∷ l) e =
       let h = neither (p x) (anyOf p l) e in
       let ih = anyOf-keep p q l (h .1) in
       by-test (q x) (λ t. rw (keep-in q x l t) (rw (h .0) ih)) (λ t. rw (keep-out q x l t) ih)
 
-  pub allOf-keep : (p q : A → Bool) (l : List A) → allOf p l ≡ true → allOf p (keep q l) ≡ true
-  unfolding allOf keep
+  pub allOf-keep : (p q : A → Bool) (l : List A) → allOf p l ≡ true → allOf p (filter q l) ≡ true
+  unfolding allOf filter
   allOf-keep p q [] e = e
   allOf-keep p q (x ∷ l) e =
       let h = and-eq-true-iff (p x) (allOf p l) .0 e in
@@ -79,8 +79,8 @@ module _ {A : Type 0} where
       by-test (q x) (λ t. rw (keep-in q x l t) (both (h .0) ih)) (λ t. rw (keep-out q x l t) ih)
 
   -- all that are kept pass
-  pub allOf-kept : (p : A → Bool) (l : List A) → allOf p (keep p l) ≡ true
-  unfolding allOf keep
+  pub allOf-kept : (p : A → Bool) (l : List A) → allOf p (filter p l) ≡ true
+  unfolding allOf filter
   allOf-kept p [] = refl
   allOf-kept p (x ∷ l) =
       let ih = allOf-kept p l in
@@ -100,10 +100,10 @@ module _ {A : Type 0} where
       let h = and-eq-true-iff (p x) (allOf p (a ++ b)) .0 e in
       both (h .0) (allOf-front p a b (h .1))
 
-  pub allOf-behind : (p : A → Bool) (a b : List A) → allOf p (a ++ b) ≡ true → allOf p b ≡ true
+  pub allOf-after : (p : A → Bool) (a b : List A) → allOf p (a ++ b) ≡ true → allOf p b ≡ true
   unfolding allOf
-  allOf-behind p [] b e = e
-  allOf-behind p (x ∷ a) b e = allOf-behind p a b (and-eq-true-iff (p x) (allOf p (a ++ b)) .0 e .1)
+  allOf-after p [] b e = e
+  allOf-after p (x ∷ a) b e = allOf-after p a b (and-eq-true-iff (p x) (allOf p (a ++ b)) .0 e .1)
 
   -- members changed by a function that keeps a test
   pub allOf-map : (p : A → Bool) (f : A → A) → ((x : A) → p x ≡ true → p (f x) ≡ true) → (l : List A) → allOf p l ≡ true → allOf p (map f l) ≡ true
@@ -130,7 +130,7 @@ module _ {A : Type 0} where
 
   -- a member that passes is kept
   pub kept-place : (p : A → Bool) (l : List A) (k : ℕ) (d : A) → k < length l → p (getD l k d) ≡ true
-      → (m : ℕ) × (m < length (keep p l)) × (getD (keep p l) m d ≡ getD l k d)
+      → (m : ℕ) × (m < length (filter p l)) × (getD (filter p l) m d ≡ getD l k d)
   kept-place p [] k d h t = absurd (omega arith)
   kept-place p (x ∷ l) zero d h t = rw (keep-in p x l t) (0, omega arith, refl)
   kept-place p (x ∷ l) (suc k) d h t =
@@ -141,22 +141,22 @@ module _ {A : Type 0} where
   abbrev pub Passing : (A → Bool) → List A → A → A → Type 0
   Passing p l d y = (j : ℕ) × (j < length l) × (getD l j d ≡ y) × (p (getD l j d) ≡ true)
 
-  passing-behind : (p : A → Bool) (x : A) (l : List A) (d y : A) → Passing p l d y → Passing p (x ∷ l) d y
-  passing-behind p x l d y n = (suc (n .0), omega (arith, n .1), n .2, n .3)
+  passing-after : (p : A → Bool) (x : A) (l : List A) (d y : A) → Passing p l d y → Passing p (x ∷ l) d y
+  passing-after p x l d y n = (suc (n .0), omega (arith, n .1), n .2, n .3)
 
   -- what is kept is one
-  pub kept-from : (p : A → Bool) (l : List A) (m : ℕ) (d : A) → m < length (keep p l) → Passing p l d (getD (keep p l) m d)
-  unfolding keep
+  pub kept-from : (p : A → Bool) (l : List A) (m : ℕ) (d : A) → m < length (filter p l) → Passing p l d (getD (filter p l) m d)
+  unfolding filter
   kept-from p [] m d h = absurd (omega arith)
   kept-from p (x ∷ l) m d h =
       by-test (p x)
       (λ e. rw (keep-in p x l e) (here m e (rw (keep-in p x l e) at h) (λ k g. kept-from p l k d g)))
-      (λ e. rw (keep-out p x l e) (passing-behind p x l d _ (kept-from p l m d (rw (keep-out p x l e) at h))))
+      (λ e. rw (keep-out p x l e) (passing-after p x l d _ (kept-from p l m d (rw (keep-out p x l e) at h))))
     where
-      here : (m : ℕ) → p x ≡ true → m < length (x ∷ keep p l) → ((k : ℕ) → k < length (keep p l) → Passing p l d (getD (keep p l) k d))
-          → Passing p (x ∷ l) d (getD (x ∷ keep p l) m d)
+      here : (m : ℕ) → p x ≡ true → m < length (x ∷ filter p l) → ((k : ℕ) → k < length (filter p l) → Passing p l d (getD (filter p l) k d))
+          → Passing p (x ∷ l) d (getD (x ∷ filter p l) m d)
       here zero e h f = (0, omega arith, refl, e)
-      here (suc m) e h f = passing-behind p x l d _ (f m (omega arith))
+      here (suc m) e h f = passing-after p x l d _ (f m (omega arith))
 
 -- a member of a list that was made of another
 pub getD-made : {A B : Type 0} (f : A → B) (l : List A) (i : ℕ) (a : A) (b : B) → i < length l → getD (map f l) i b ≡ f (getD l i a)
@@ -164,8 +164,8 @@ getD-made f [] i a b h = absurd (omega arith)
 getD-made f (x ∷ l) zero a b h = refl
 getD-made f (x ∷ l) (suc i) a b h = getD-made f l i a b (omega arith)
 
-pub keep-map : {A B : Type 0} (p : B → Bool) (q : A → Bool) (f : A → B) → ((x : A) → p (f x) ≡ q x) → (l : List A) → keep p (map f l) ≡ map f (keep q l)
-unfolding keep
+pub keep-map : {A B : Type 0} (p : B → Bool) (q : A → Bool) (f : A → B) → ((x : A) → p (f x) ≡ q x) → (l : List A) → filter p (map f l) ≡ map f (filter q l)
+unfolding filter
 keep-map p q f e [] = refl
 keep-map p q f e (x ∷ l) =
     let ih = keep-map p q f e l in
@@ -209,20 +209,20 @@ distinct-append (k ∷ a) b da db n =
     (member-append k a b ∙ ap₂ _||_ (h .0) here)
     (distinct-append a b (h .1) db (allOf-weaken _ _ (λ x e. ap not (apart x e .1)) b n))
 
-pub distinct-behind : (a b : List (List ℕ)) → distinct (a ++ b) ≡ true → distinct b ≡ true
-distinct-behind [] b d = d
-distinct-behind (k ∷ a) b d = distinct-behind a b (distinct-parts k (a ++ b) d .1)
+pub distinct-after : (a b : List (List ℕ)) → distinct (a ++ b) ≡ true → distinct b ≡ true
+distinct-after [] b d = d
+distinct-after (k ∷ a) b d = distinct-after a b (distinct-parts k (a ++ b) d .1)
 
 -- what is left of a list of which some members are taken out
-pub distinct-keep : {A : Type 0} (f : A → List ℕ) (q : A → Bool) (l : List A) → distinct (map f l) ≡ true → distinct (map f (keep q l)) ≡ true
-unfolding keep member
+pub distinct-keep : {A : Type 0} (f : A → List ℕ) (q : A → Bool) (l : List A) → distinct (map f l) ≡ true → distinct (map f (filter q l)) ≡ true
+unfolding filter member
 distinct-keep f q [] d = d
 distinct-keep f q (x ∷ l) d =
     let h = distinct-parts (f x) (map f l) d in
     let ih = distinct-keep f q l (h .1) in
     by-test (q x)
-    (λ t. rw (keep-in q x l t) (distinct-cons (f x) (map f (keep q l)) (anyOf-map (same (f x)) f (keep q l) ∙ anyOf-keep (λ y. same (f x) (f y)) q l (sym (anyOf-map (same (f x)) f l) ∙ h .0)) ih))
+    (λ t. rw (keep-in q x l t) (distinct-cons (f x) (map f (filter q l)) (anyOf-map (same (f x)) f (filter q l) ∙ anyOf-keep (λ y. same (f x) (f y)) q l (sym (anyOf-map (same (f x)) f l) ∙ h .0)) ih))
     (λ t. rw (keep-out q x l t) ih)
 
-pub distinct-kept : (q : List ℕ → Bool) (l : List (List ℕ)) → distinct l ≡ true → distinct (keep q l) ≡ true
-distinct-kept q l d = ap distinct (sym (map-id (keep q l))) ∙ distinct-keep (λ k. k) q l (ap distinct (map-id l) ∙ d)
+pub distinct-kept : (q : List ℕ → Bool) (l : List (List ℕ)) → distinct l ≡ true → distinct (filter q l) ≡ true
+distinct-kept q l d = ap distinct (sym (map-id (filter q l))) ∙ distinct-keep (λ k. k) q l (ap distinct (map-id l) ∙ d)

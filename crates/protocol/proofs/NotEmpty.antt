@@ -12,7 +12,7 @@ use Rattle.octets.specs.Lists.{allOf}
 use Rattle.octets.specs.Octets.{Octets}
 use Rattle.rights.specs.Rights.{authorises}
 use Rattle.store.specs.Records.{recordsFrom, anchorSection, recordsOf}
-use Rattle.protocol.specs.Demand3.{after, leftBy, signerOf, signerIn, acceptedSigner, authorising}
+use Rattle.protocol.specs.Demand3.{after, storeAfter, signerOf, signerIn, acceptedSigner, authorising}
 use Rattle.protocol.specs.NotEmpty.{image, message, enrolment, content, manager, NotEmpty}
 use Rattle.protocol.proofs.Computed.{computed}
 
@@ -45,7 +45,7 @@ unfolding computed recordsFrom anchorSection recordsOf authorising
 before = refl
 
 afterwards : length (authorising content (recordsOf (after image (enrolment message-octets ∷ [])))) ≡ 3
-unfolding computed after leftBy recordsFrom anchorSection recordsOf authorising
+unfolding computed after storeAfter recordsFrom anchorSection recordsOf authorising
 afterwards = refl
 
 pub not-empty : NotEmpty

@@ -31,17 +31,17 @@ records-from (a ∷ l) rest g =
     rw (append-assoc (encodeAnchor a) (flatMap encodeAnchor l) rest)
     (ap₂ _∷_ (take-at (encodeAnchor a) t _ k) (ap (recordsFrom (length l)) (drop-at (encodeAnchor a) t _ k) ∙ records-from l rest (h .1)))
 
--- what stands behind a count and two names
-behind-names : (h v rest : List ℕ) → anchorSection ((1 ∷ encodeName h) ++ (encodeName v ++ rest)) ≡ rest
+-- what stands after a count and two names
+after-names : (h v rest : List ℕ) → anchorSection ((1 ∷ encodeName h) ++ (encodeName v ++ rest)) ≡ rest
 unfolding anchorSection
-behind-names h v rest =
+after-names h v rest =
     let e : octet ((1 ∷ encodeName h) ++ (encodeName v ++ rest)) (2 + length h) ≡ length v =
     getD-at (1 ∷ encodeName h) (length v) (v ++ rest) 0 (2 + length h) (omega arith)
     in
     rw (e, ← append-assoc (1 ∷ encodeName h) (encodeName v) rest)
     (drop-at ((1 ∷ encodeName h) ++ encodeName v) rest (3 + length h + length v) (omega (arith, length-append h (encodeName v))))
 
--- the anchors' section stands behind the device's
+-- the anchors' section stands after the device's
 anchor-section : (σ : Store) → anchorSection (encode σ) ≡ encodeSection encodeAnchor (anchors σ) ++ encodeSection encodeName (σ .communities)
 unfolding encode encodeDevice flatMap
 anchor-section σ =
@@ -51,7 +51,7 @@ anchor-section σ =
     let e : encode σ ≡ (1 ∷ encodeName h) ++ (encodeName v ++ t) =
     ap (λ (d : List ℕ). 1 ∷ (d ++ t)) (append-nil (encodeName h ++ encodeName v)) ∙ ap (λ (r : List ℕ). 1 ∷ r) (append-assoc (encodeName h) (encodeName v) t)
     in
-    ap anchorSection e ∙ behind-names h v t
+    ap anchorSection e ∙ after-names h v t
 
 pub records-encode : (σ : Store) → wellFormed σ ≡ true → recordsOf (encode σ) ≡ map encodeAnchor (anchors σ)
 unfolding recordsOf

@@ -4,7 +4,6 @@ use native.Mathlib.Omega.{arith}
 use mathlib.Core.Bool.{Bool}
 use mathlib.Core.List.{List}
 use mathlib.Core.Option.{Option, none, some}
-use mathlib.Core.Path.{_≡_}
 use lib.ListN.{length}
 use lib.Dec.{ltb}
 use Rattle.octets.specs.declared.Status.{Status}
@@ -19,8 +18,8 @@ use Rattle.syntax.specs.declared.TampType.the-variants.{StatusQuery, Update, Co
 use Rattle.syntax.specs.declared.Recognised.{Recognised}
 use Rattle.syntax.specs.declared.Recognised.the-variants.{Tamp, Unknown}
 use Rattle.rights.specs.Rights.{Rights}
-use Rattle.store.specs.declared.Found.{Found}
-use Rattle.store.specs.declared.Found.the-variants as found
+use Rattle.store.specs.declared.FoundSigner.{FoundSigner}
+use Rattle.store.specs.declared.FoundSigner.the-variants as found
 use Rattle.store.specs.Store.{Store, identifiers}
 use Rattle.store.specs.Signer.{signer}
 use Rattle.store.specs.Image.{decode}
@@ -38,7 +37,7 @@ use Rattle.message.specs.Fields.{entriesIn}
 use Rattle.message.specs.Rows.{unwrapped, receivedOf, received}
 use Rattle.protocol.specs.declared.Judgement.{Judgement}
 use Rattle.protocol.specs.declared.Judgement.the-variants.{Refuses, Accepts}
-use Rattle.protocol.specs.Acceptance.{foundStatus, weighed, bySigner, judgementOf, judgement}
+use Rattle.protocol.specs.Acceptance.{foundStatus, judgedAt, bySigner, judgementOf, judgement}
 use Rattle.protocol.specs.Community.{communityStatus}
 use Rattle.protocol.specs.Effect.{queryEffect, adjustEffect, communityEffect, updateEffect, effectOf, effect}
 use Rattle.protocol.specs.Call.{Outcome, refused, answered, answerOf, guarded, callOn, callOf, call}
@@ -105,8 +104,8 @@ target-small target.Named = omega arith
 target-small target.Unsupported = omega arith
 target-small target.Elsewhere = omega arith
 
-in-weighed : (σ : Store) (s : List ℕ) (q : Request) (i : ℕ) → InJudgement (weighed σ s q i)
-unfolding weighed
+in-weighed : (σ : Store) (s : List ℕ) (q : Request) (i : ℕ) → InJudgement (judgedAt σ s q i)
+unfolding judgedAt
 in-weighed σ s q i =
     let P : Judgement → Type 0 = InJudgement in
     by-given P _ (λ _. target-small _) (λ _.
@@ -117,7 +116,7 @@ in-judgement : (σ : Store) (verdict s : List ℕ) → InJudgement (judgement σ
 unfolding judgement judgementOf bySigner foundStatus
 in-judgement σ verdict s = go (received s) (in-received s)
   where
-    by : (q : Request) (f : Found) → InJudgement (bySigner σ s q f)
+    by : (q : Request) (f : FoundSigner) → InJudgement (bySigner σ s q f)
     by q (found.At i) = in-weighed σ s q i
     by q found.Unverified = omega arith
     by q found.Unknown = omega arith

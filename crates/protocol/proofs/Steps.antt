@@ -7,10 +7,10 @@ use lib.ListN.{length, getD}
 use lib.Dec.{ltb}
 use borrow.Author.Tests.{not-false}
 use Rattle.octets.specs.Limits.{maxUpdates}
-use Rattle.octets.specs.Lists.{anyOf, keep}
+use Rattle.octets.specs.Lists.{anyOf, filter}
 use Rattle.octets.specs.Octets.{same}
 use Rattle.octets.proofs.Lists.{by-test, neither, keep-in, keep-out}
-use Rattle.der.specs.Element.{whole}
+use Rattle.der.specs.Element.{encoding}
 use Rattle.syntax.specs.declared.TampType.{TampType}
 use Rattle.syntax.specs.declared.TampType.the-variants.{StatusQuery, Update, CommunityUpdate, SeqNumAdjust}
 use Rattle.rights.specs.Rights.{Rights, Content, authorises, nothing}
@@ -23,7 +23,7 @@ use Rattle.message.specs.declared.Entry.{Entry}
 use Rattle.message.specs.declared.Entry.the-variants as entry
 use Rattle.message.specs.Fields.{seqNumIn, entriesIn, seqNumbersIn, keyIn}
 use Rattle.protocol.specs.Acceptance.{rightsAt}
-use Rattle.protocol.specs.Update.{Step, unnumbered, added, hasKey, without, removed, step, steps, numbered, stamped, allStamped}
+use Rattle.protocol.specs.Update.{Step, unnumbered, added, hasKey, without, removed, step, steps, numbered, withSeqNumber, withSeqNumbers}
 use Rattle.protocol.specs.Effect.{numberSet, withNumber, queryEffect, adjustEffect, communityEffect, updateEffect, effectOf, effect}
 use Rattle.protocol.proofs.Lists.{by-given, keep-cons, keep-none, keep-append, keep-last-out, keep-map-none, anyOf-append}
 
@@ -33,17 +33,17 @@ may content a = authorises (rightsOf (a .info)) content
 
 -- the anchors of a store that authorise the content, in order: the apex, and others
 abbrev pub holders : Content → Store → List Anchor
-holders content σ = σ .apex ∷ keep (may content) (σ .others)
+holders content σ = σ .apex ∷ filter (may content) (σ .others)
 
 -- the old anchors and the new ones that authorise the content are the same afterwards
 pub record Kept (content : Content) (old new old′ new′ : List Anchor) : Type 0 where
-  pub of-old : keep (may content) old′ ≡ keep (may content) old
-  pub of-new : keep (may content) new′ ≡ keep (may content) new
+  pub of-old : filter (may content) old′ ≡ filter (may content) old
+  pub of-new : filter (may content) new′ ≡ filter (may content) new
 
 module _ (content : Content) where
   -- the number of an anchor that does not authorise the content
   pub keep-numberSet : (i n : ℕ) (l : List Anchor) → authorises (getD (map (λ a. rightsOf (a .info)) l) i nothing) content ≡ false
-      → keep (may content) (numberSet i n l) ≡ keep (may content) l
+      → filter (may content) (numberSet i n l) ≡ filter (may content) l
   unfolding numberSet
   keep-numberSet i n [] f = refl
   keep-numberSet zero n (a ∷ l) f = keep-out (may content) (numbered n a) l f ∙ sym (keep-out (may content) a l f)
@@ -56,14 +56,14 @@ module _ (content : Content) where
   holders-withNumber (suc i) n σ f = ap (λ r. σ .apex ∷ r) (keep-numberSet i n (σ .others) f)
 
   -- the numbers of appended anchors, none of which authorises the content
-  may-stamped : (p : List ℕ × ℕ) (a : Anchor) → may content (stamped p a) ≡ may content a
-  unfolding stamped
-  may-stamped p a = by-test (same (identifierOf a) (p .0)) (λ t. rw (t, stamped)) (λ t. rw (t, stamped))
+  may-stamped : (p : List ℕ × ℕ) (a : Anchor) → may content (withSeqNumber p a) ≡ may content a
+  unfolding withSeqNumber
+  may-stamped p a = by-test (same (identifierOf a) (p .0)) (λ t. rw (t, withSeqNumber)) (λ t. rw (t, withSeqNumber))
 
-  pub keep-allStamped : (ps : List (List ℕ × ℕ)) (new : List Anchor) → keep (may content) new ≡ [] → keep (may content) (allStamped ps new) ≡ []
-  unfolding allStamped
+  pub keep-allStamped : (ps : List (List ℕ × ℕ)) (new : List Anchor) → filter (may content) new ≡ [] → filter (may content) (withSeqNumbers ps new) ≡ []
+  unfolding withSeqNumbers
   keep-allStamped [] new e = e
-  keep-allStamped (p ∷ ps) new e = keep-allStamped ps (map (stamped p) new) (keep-map-none (may content) (stamped p) (may-stamped p) new e)
+  keep-allStamped (p ∷ ps) new e = keep-allStamped ps (map (withSeqNumber p) new) (keep-map-none (may content) (withSeqNumber p) (may-stamped p) new e)
 
 -- the entries, by a signer that does not authorise the content
 module _ (content : Content) (rights : Rights) (silent : authorises rights content ≡ false) where
@@ -89,8 +89,8 @@ module _ (content : Content) (rights : Rights) (silent : authorises rights conte
 
   -- anchors taken out that are within the signer
   keep-without : (key : List ℕ) (l : List Anchor) → anyOf (λ a. hasKey key a && not (within rights (rightsOf (a .info)))) l ≡ false
-      → keep (may content) (without key l) ≡ keep (may content) l
-  unfolding anyOf keep
+      → filter (may content) (without key l) ≡ filter (may content) l
+  unfolding anyOf filter
   keep-without key [] f = refl
   keep-without key (a ∷ l) f =
       let p : Anchor → Bool = λ a. not (hasKey key a) in
@@ -99,8 +99,8 @@ module _ (content : Content) (rights : Rights) (silent : authorises rights conte
       by-test (hasKey key a)
       (λ t.
       let w = not-false (within rights (rightsOf (a .info))) (rw t at (h .0)) in
-      ap (keep (may content)) (keep-out p a l (ap not t)) ∙ ih ∙ sym (keep-out (may content) a l (below-signer (a .info) w)))
-      (λ t. ap (keep (may content)) (keep-in p a l (ap not t)) ∙ keep-cons (may content) a (without key l) l ih)
+      ap (filter (may content)) (keep-out p a l (ap not t)) ∙ ih ∙ sym (keep-out (may content) a l (below-signer (a .info) w)))
+      (λ t. ap (filter (may content)) (keep-in p a l (ap not t)) ∙ keep-cons (may content) a (without key l) l ih)
 
   pub kept-removed : (apex : Anchor) (old new : List Anchor) (key : List ℕ)
       → let d = removed rights apex old new key in Kept content old new (d .old) (d .new)
@@ -118,7 +118,7 @@ module _ (content : Content) (rights : Rights) (silent : authorises rights conte
   pub kept-step : (s : List ℕ) (apex : Anchor) (old new : List Anchor) (e : Entry)
       → let d = step s rights apex old new e in Kept content old new (d .old) (d .new)
   unfolding step
-  kept-step s apex old new (entry.Add e) = kept-added apex old new (whole s e)
+  kept-step s apex old new (entry.Add e) = kept-added apex old new (encoding s e)
   kept-step s apex old new entry.AddCertificate = same-anchors old new
   kept-step s apex old new (entry.Remove e) = kept-removed apex old new (keyIn s e)
   kept-step s apex old new entry.Change = same-anchors old new
@@ -141,12 +141,12 @@ module _ (content : Content) (rights : Rights) (silent : authorises rights conte
       let done = steps s rights (σ .apex) (σ .others) [] entries in
       let kept = kept-steps s (σ .apex) (σ .others) [] entries in
       let numbers = seqNumbersIn s (q .body) in
-      let new : keep (may content) (allStamped numbers (done .new)) ≡ [] = keep-allStamped content numbers (done .new) (kept .of-new ∙ keep-none (may content)) in
+      let new : filter (may content) (withSeqNumbers numbers (done .new)) ≡ [] = keep-allStamped content numbers (done .new) (kept .of-new ∙ keep-none (may content)) in
       by-test (ltb maxUpdates (length entries))
       (λ t. rw (t, updateEffect))
       (λ t. rw (t, updateEffect)
       (ap (λ r. σ .apex ∷ r)
-      (keep-append (may content) (done .old) (allStamped numbers (done .new)) ∙ ap₂ _++_ (kept .of-old) new ∙ append-nil _)))
+      (keep-append (may content) (done .old) (withSeqNumbers numbers (done .new)) ∙ ap₂ _++_ (kept .of-old) new ∙ append-nil _)))
 
   holders-effectOf : (kind : TampType) (s : List ℕ) (q : Request) (σ : Store) → holders content (effectOf kind s q rights σ .store) ≡ holders content σ
   unfolding effectOf queryEffect adjustEffect communityEffect

@@ -22,7 +22,7 @@ use Rattle.anchor.specs.Judge.{conforms, judge, passes, storable}
 use Rattle.anchor.proofs.Passed.{valid-rights}
 use Rattle.store.specs.Store.{Anchor, Store, anchors, rightsIn}
 use Rattle.store.specs.Image.{encodeName, encodeNumber, encodeAnchor, encodeSection, encodeDevice, encode, decode, anchorOk}
-use Rattle.store.proofs.Readers.{octets-front, octets-behind}
+use Rattle.store.proofs.Readers.{octets-front, octets-after}
 use Rattle.store.proofs.Formats.{rules}
 use Rattle.store.proofs.RoundTrip.{encode-decode, decode-wellFormed}
 use Rattle.protocol.specs.Acceptance.{rightsAt}
@@ -34,8 +34,8 @@ infos (a ∷ l) o =
     let n = encodeNumber (a .number) in
     let size = bigEndian 2 (length (a .info)) in
     let more = flatMap encodeAnchor l in (
-      octets-behind size (a .info) _ refl (octets-behind n (size ++ a .info) _ refl (octets-front (encodeAnchor a) more _ refl o)),
-      infos l (octets-behind (encodeAnchor a) more _ refl o),
+      octets-after size (a .info) _ refl (octets-after n (size ++ a .info) _ refl (octets-front (encodeAnchor a) more _ refl o)),
+      infos l (octets-after (encodeAnchor a) more _ refl o),
     )
 
 others-valid : (l : List Anchor) → Every (λ a. Octets (a .info)) l → allOf anchorOk l ≡ true → Every ValidRights (map (λ a. rightsOf (a .info)) l)
@@ -63,6 +63,6 @@ signer-valid image σ o d i =
     let stored = encodeSection encodeAnchor (anchors σ) in
     let names = encodeSection encodeName (σ .communities) in
     let device = encodeSection encodeDevice (σ .device ∷ []) in
-    let section = octets-front stored names _ refl (octets-behind device (stored ++ names) image (encode-decode image σ o d) o) in
+    let section = octets-front stored names _ refl (octets-after device (stored ++ names) image (encode-decode image σ o d) o) in
     let g = and-eq-true-iff (anchorOk (σ .apex)) (allOf anchorOk (σ .others)) .0 (rules σ (decode-wellFormed image σ d) .each-anchor) in
     at-valid (rightsIn σ) i (apex-valid, others-valid (σ .others) (infos (anchors σ) (λ k. section (suc k)) .1) (g .1))

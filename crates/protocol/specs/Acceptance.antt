@@ -13,8 +13,8 @@ use Rattle.der.specs.Element.{contents}
 use Rattle.syntax.specs.declared.TampType.{TampType}
 use Rattle.syntax.specs.declared.TampType.the-variants.{StatusQuery, Update, CommunityUpdate, SeqNumAdjust}
 use Rattle.rights.specs.Rights.{Rights, Content, source, nothing, authorises}
-use Rattle.store.specs.declared.Found.{Found}
-use Rattle.store.specs.declared.Found.the-variants as found
+use Rattle.store.specs.declared.FoundSigner.{FoundSigner}
+use Rattle.store.specs.declared.FoundSigner.the-variants as found
 use Rattle.store.specs.Store.{Store, anchors, identifiers, rightsIn}
 use Rattle.store.specs.Signer.{signer}
 use Rattle.rights.specs.Attributes.{pairs}
@@ -38,7 +38,7 @@ abbrev pub numberAt : Store → ℕ → Option ℕ
 numberAt σ i = getD (anchors σ) i (σ .apex) .number
 
 -- 10: no anchor has the key identifier; 16: none of those that have it has verdict 1
-unfoldable pub foundStatus : Found → Status
+unfoldable pub foundStatus : FoundSigner → Status
 foundStatus (found.At i) = success
 foundStatus found.Unverified = signatureFailure
 foundStatus found.Unknown = noTrustAnchor
@@ -75,22 +75,22 @@ row-21 none s q = false
 row-21 (some stored) s q = tooLow (q .kind) stored (seqNumIn s (q .msgref))
 
 -- a refusal of a request, with its msgRef
-abbrev pub refuse : Request → Status → Judgement
-refuse q status = Refuses (record { status = status; offset = 0; msgtype = q .msgtype; msgref = q .msgref })
+abbrev pub refuseRequest : Request → Status → Judgement
+refuseRequest q status = Refuses (record { status = status; offset = 0; msgtype = q .msgtype; msgref = q .msgref })
 
--- the rows behind 16, by the anchor at position i
-unfoldable pub weighed : Store → List ℕ → Request → ℕ → Judgement
-weighed σ s q i =
+-- the rows after 16, by the anchor at position i
+unfoldable pub judgedAt : Store → List ℕ → Request → ℕ → Judgement
+judgedAt σ s q i =
     let t = targetFor σ s q in
-    givenIf (not (isNamed t)) (refuse q (targetStatus t))
-    (givenIf (row-11 (rightsAt σ i) s q) (refuse q notAuthorized)
-    (givenIf (row-21 (numberAt σ i) s q) (refuse q seqNumFailure)
+    givenIf (not (isNamed t)) (refuseRequest q (targetStatus t))
+    (givenIf (row-11 (rightsAt σ i) s q) (refuseRequest q notAuthorized)
+    (givenIf (row-21 (numberAt σ i) s q) (refuseRequest q seqNumFailure)
     (Accepts q i)))
 
-unfoldable pub bySigner : Store → List ℕ → Request → Found → Judgement
-bySigner σ s q (found.At i) = weighed σ s q i
-bySigner σ s q found.Unverified = refuse q (foundStatus found.Unverified)
-bySigner σ s q found.Unknown = refuse q (foundStatus found.Unknown)
+unfoldable pub bySigner : Store → List ℕ → Request → FoundSigner → Judgement
+bySigner σ s q (found.At i) = judgedAt σ s q i
+bySigner σ s q found.Unverified = refuseRequest q (foundStatus found.Unverified)
+bySigner σ s q found.Unknown = refuseRequest q (foundStatus found.Unknown)
 
 unfoldable pub judgementOf : Store → List ℕ → List ℕ → Received → Judgement
 judgementOf σ verdict s (Refused r) = Refuses r

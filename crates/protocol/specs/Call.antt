@@ -11,7 +11,7 @@ use Rattle.octets.specs.Limits.{replyRoom, imageRoom, maxMessage}
 use Rattle.octets.specs.First.{givenIf}
 use Rattle.octets.specs.Lists.{allOf}
 use Rattle.octets.specs.Octets.{written}
-use Rattle.der.specs.Element.{whole, contents}
+use Rattle.der.specs.Element.{encoding, contents}
 use Rattle.store.specs.Store.{Store, anchors}
 use Rattle.store.specs.Image.{encode, decode}
 use Rattle.envelope.specs.declared.Refusal.{Refusal}
@@ -52,7 +52,7 @@ row-205 (answered status reply next) = ltb replyNeeds (length reply)
 -- "Statuses 1, 2, 3 and 4 have no reply. The rest reply with a TAMP Error, with msgRef from 127 on, without it before": what it repeats of the message stands in the refusal
 unfoldable pub refusalReply : List ℕ → Refusal → List ℕ
 refusalReply s r =
-    elim (r .msgtype .good) [ true ↦ tampError (contents s (r .msgtype)) (r .status) (whole s (r .msgref)) | false ↦ [] ]
+    elim (r .msgtype .valid) [ true ↦ tampError (contents s (r .msgtype)) (r .status) (encoding s (r .msgref)) | false ↦ [] ]
 
 -- "These answers leave the store alone" (a copy where nothing changed); an accepted message writes its effect
 unfoldable pub answerOf : List ℕ → List ℕ → Store → Judgement → Outcome
@@ -79,9 +79,9 @@ unfoldable pub call : List ℕ → List ℕ → List ℕ → ℕ → ℕ → Out
 call s image verdict replyLent nextLent = callOf (decode image) s image verdict replyLent nextLent
 
 -- what the call returns and leaves: the number, the two lengths, and what the lent buffers hold ("octets after the written lengths stay")
-unfoldable pub numberOf : Outcome → Status
-numberOf (refused number) = number
-numberOf (answered status reply next) = status
+unfoldable pub outcomeNumber : Outcome → Status
+outcomeNumber (refused number) = number
+outcomeNumber (answered status reply next) = status
 
 unfoldable pub replyOf : Outcome → List ℕ
 replyOf (refused number) = []

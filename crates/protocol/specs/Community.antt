@@ -6,19 +6,19 @@ use lib.ListN.{length}
 use lib.Dec.{ltb, eqb}
 use Rattle.octets.specs.declared.Status.{Status}
 use Rattle.octets.specs.Status.{success, insufficientMemory, communityUpdateFailed}
-use Rattle.octets.specs.Limits.{maxName, maxCommunities}
+use Rattle.octets.specs.Limits.{maxNameOctets, maxCommunities}
 use Rattle.octets.specs.First.{givenIf}
-use Rattle.octets.specs.Lists.{anyOf, keep}
+use Rattle.octets.specs.Lists.{anyOf, filter}
 use Rattle.octets.specs.Octets.{member, distinct}
 
 -- "removals (absent ones pass)". RFC 5934, 4.7: "Where remove is present with an empty list, all community identifiers MUST be removed."
 unfoldable pub afterRemovals : Bool → List (List ℕ) → List (List ℕ) → List (List ℕ)
 afterRemovals present removals communities =
-    elim (present && eqb (length removals) 0) [ true ↦ [] | false ↦ keep (λ c. not (member c removals)) communities ]
+    elim (present && eqb (length removals) 0) [ true ↦ [] | false ↦ filter (λ c. not (member c removals)) communities ]
 
 -- "additions at the end (present ones pass)"
 unfoldable pub afterAdditions : List (List ℕ) → List (List ℕ) → List (List ℕ)
-afterAdditions additions communities = communities ++ keep (λ c. not (member c communities)) additions
+afterAdditions additions communities = communities ++ filter (λ c. not (member c communities)) additions
 
 -- what the communities would become
 abbrev pub updated : Bool → List (List ℕ) → List (List ℕ) → List (List ℕ) → List (List ℕ)
@@ -29,7 +29,7 @@ unfoldable pub communityStatus : Bool → List (List ℕ) → List (List ℕ) �
 communityStatus present removals additions communities =
     givenIf (not (distinct (removals ++ additions))) communityUpdateFailed
     (givenIf
-    (anyOf (λ c. ltb maxName (length c)) (removals ++ additions) || ltb maxCommunities (length (updated present removals additions communities)))
+    (anyOf (λ c. ltb maxNameOctets (length c)) (removals ++ additions) || ltb maxCommunities (length (updated present removals additions communities)))
     insufficientMemory
     success)
 

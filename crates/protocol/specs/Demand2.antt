@@ -12,7 +12,7 @@ use Rattle.octets.specs.Status.{success, notAuthorized}
 use Rattle.octets.specs.Limits.{maxUpdates}
 use Rattle.octets.specs.Octets.{Octets}
 use Rattle.der.specs.declared.Element.{Element}
-use Rattle.der.specs.Element.{whole}
+use Rattle.der.specs.Element.{encoding}
 use Rattle.syntax.specs.declared.TampType.the-variants.{Update}
 use Rattle.rights.specs.Rights.{Rights, Outside}
 use Rattle.rights.specs.Valid.{ValidOutside}
@@ -40,10 +40,10 @@ Exactly status signer new = ((status ≡ notAuthorized) ↔ Outside signer new) 
 -- the reply is a confirm that lists a status per entry; of each add it is 11 exactly where a content lies outside the signer's rights
 pub record Confirms (s : List ℕ) (q : Request) (signer : Rights) (reply : List ℕ) : Type 0 where
   pub statuses : List Status
-  pub confirm : reply ≡ updateConfirm (whole s (q .msgref)) statuses
+  pub confirm : reply ≡ updateConfirm (encoding s (q .msgref)) statuses
   pub perEntry : length statuses ≡ length (entriesOf s q)
-  pub adds : (k : ℕ) (e : Element) → k < length (entriesOf s q) → getD (entriesOf s q) k entry.Change ≡ entry.Add e → passes (judge (whole s e)) ≡ true
-      → Exactly (getD statuses k success) signer (rightsOf (whole s e))
+  pub adds : (k : ℕ) (e : Element) → k < length (entriesOf s q) → getD (entriesOf s q) k entry.Change ≡ entry.Add e → passes (judge (encoding s e)) ≡ true
+      → Exactly (getD statuses k success) signer (rightsOf (encoding s e))
 
 -- of any accepted Update of 16 entries at most: one of more has no confirm
 abbrev pub Demand2 : Type 0

@@ -8,7 +8,7 @@ pub use Rattle.store.specs.Steps.{withOthers, withCommunities}
 use Rattle.octets.specs.declared.Status.{Status}
 use Rattle.octets.specs.Status.{success, insufficientMemory}
 use Rattle.octets.specs.Limits.{maxUpdates}
-use Rattle.der.specs.Element.{whole, contents}
+use Rattle.der.specs.Element.{encoding, contents}
 use Rattle.syntax.specs.declared.TampType.{TampType}
 use Rattle.syntax.specs.declared.TampType.the-variants.{StatusQuery, Update, CommunityUpdate, SeqNumAdjust}
 use Rattle.store.specs.Store.{Anchor, Store, identifiers}
@@ -17,7 +17,7 @@ use Rattle.message.specs.Fields.{seqNumIn, updatesIn, entriesIn, seqNumbersIn, 
 use Rattle.reply.specs.Replies.{tampError, statusResponse, updateConfirm, communityConfirm, adjustConfirm}
 use Rattle.rights.specs.Rights.{Rights}
 use Rattle.protocol.specs.Acceptance.{rightsAt}
-use Rattle.protocol.specs.Update.{steps, numbered, allStamped}
+use Rattle.protocol.specs.Update.{steps, numbered, withSeqNumbers}
 use Rattle.protocol.specs.Community.{communityStatus, communitiesAfter}
 
 -- the status of the call, its reply, and the next store
@@ -46,14 +46,14 @@ updateEffect s q rights σ =
       | true ↦
           record {
             status = insufficientMemory;
-            reply = tampError (contents s (q .msgtype)) insufficientMemory (whole s (q .msgref));
+            reply = tampError (contents s (q .msgtype)) insufficientMemory (encoding s (q .msgref));
             store = σ;
           }
       | false ↦
           record {
             status = success;
-            reply = updateConfirm (whole s (q .msgref)) (done .statuses);
-            store = withOthers (done .old ++ allStamped (seqNumbersIn s (q .body)) (done .new)) σ;
+            reply = updateConfirm (encoding s (q .msgref)) (done .statuses);
+            store = withOthers (done .old ++ withSeqNumbers (seqNumbersIn s (q .body)) (done .new)) σ;
           }
     ]
 
@@ -64,21 +64,21 @@ communityEffect s q σ =
     let remove = removeIn s updates in
     let removals = oidsIn s remove in
     let additions = additionsIn s updates in
-    let status = communityStatus (remove .good) removals additions (σ .communities) in
+    let status = communityStatus (remove .valid) removals additions (σ .communities) in
     record {
       status = status;
-      reply = communityConfirm (whole s (q .msgref)) status;
-      store = withCommunities (communitiesAfter (remove .good) removals additions (σ .communities)) σ;
+      reply = communityConfirm (encoding s (q .msgref)) status;
+      store = withCommunities (communitiesAfter (remove .valid) removals additions (σ .communities)) σ;
     }
 
 -- Query: "identifiers in store order, then communities unless there are none"
 unfoldable pub queryEffect : List ℕ → Request → Store → Effect
 queryEffect s q σ =
-    record { status = success; reply = statusResponse (whole s (q .msgref)) (identifiers σ) (σ .communities); store = σ }
+    record { status = success; reply = statusResponse (encoding s (q .msgref)) (identifiers σ) (σ .communities); store = σ }
 
 -- Adjust: 0
 unfoldable pub adjustEffect : List ℕ → Request → Store → Effect
-adjustEffect s q σ = record { status = success; reply = adjustConfirm (whole s (q .msgref)); store = σ }
+adjustEffect s q σ = record { status = success; reply = adjustConfirm (encoding s (q .msgref)); store = σ }
 
 unfoldable pub effectOf : TampType → List ℕ → Request → Rights → Store → Effect
 effectOf StatusQuery s q rights σ = queryEffect s q σ

@@ -162,7 +162,7 @@ Listings =
     (listing image ≡ ascii "device 2A03 07\nanchors 2\n0 apex 01 5\n1 identity 02 -\ncommunities 0\n")
     × (listing [] ≡ ascii "refused 201\n")
 
--- Twelve more answers: 2 (the Query as a ContentInfo of type data), 3 (SignedData version 1), 7, 11, 16, 21, 23, 24, 34 for an entry, 36, 127, and 201 (an octet behind the image).
+-- Twelve more answers: 2 (the Query as a ContentInfo of type data), 3 (SignedData version 1), 7, 11, 16, 21, 23, 24, 34 for an entry, 36, 127, and 201 (an octet after the image).
 abbrev pub TwelveAnswers : Type 0
 TwelveAnswers =
     Answers (answer (set query6 14 1) both) 2 [] image

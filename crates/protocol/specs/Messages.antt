@@ -57,7 +57,7 @@ unfoldable pub signedAttrs : List ℕ → List ℕ
 signedAttrs [] = []
 signedAttrs (x ∷ s) = element 0xA0 (x ∷ s)
 
--- A ContentInfo of SignedData, with one SignerInfo and the digest SHA-256: eContentType, eContent, the signer's subjectKeyIdentifier, the signed attributes one behind the other, signatureAlgorithm and signature.
+-- A ContentInfo of SignedData, with one SignerInfo and the digest SHA-256: eContentType, eContent, the signer's subjectKeyIdentifier, the signed attributes one after the other, signatureAlgorithm and signature.
 unfoldable pub signedMessage : List ℕ → List ℕ → List ℕ → List ℕ → List ℕ → List ℕ → List ℕ
 signedMessage type content identifier attributes algorithm signature =
     let digest = algorithmIdentifier id-sha256 in
@@ -99,7 +99,7 @@ addition n info = sequence (terse ++ (msgRef allModules n ++ sequence (element 0
 
 -- RFC 5914
 
--- an Ed25519 key, of one octet here; the key identifier's octet; and what stands behind it
+-- an Ed25519 key, of one octet here; the key identifier's octet; and what stands after it
 unfoldable pub trustAnchorInfo : ℕ → ℕ → List ℕ → List ℕ
 trustAnchorInfo key identifier rest =
     sequence (sequence (algorithmIdentifier id-Ed25519 ++ element 0x03 (0 ∷ key ∷ [])) ++ (octetString (identifier ∷ []) ++ rest))

@@ -13,7 +13,7 @@ use Rattle.rights.specs.Rights.{Rights, Content, source, free, authorises}
 use Rattle.store.specs.Store.{Anchor, Store}
 use Rattle.store.specs.Image.{encode}
 use Rattle.store.specs.Records.{recordsOf}
-use Rattle.protocol.specs.Demand3.{Given, after, acceptedSigner, authorising}
+use Rattle.protocol.specs.Demand3.{Inputs, after, acceptedSigner, authorising}
 use Rattle.protocol.specs.Messages.{signedBy, addition, trustAnchorInfo, rowsType, contentConstraints}
 
 -- the apex 01 with the number 5, and the manager 12 with this number; then other anchors
@@ -40,7 +40,7 @@ enrols t = signedBy 0x12 (typeOid Update) (addition 1 (sampler t)) []
 abbrev pub message : List ℕ
 message = enrols 0x01
 
-abbrev pub enrolment : Octets message → Given
+abbrev pub enrolment : Octets message → Inputs
 enrolment octets = record { message = message; octets = octets; verdict = 1 ∷ 1 ∷ []; replyLent = replyRoom; nextLent = imageRoom }
 
 abbrev pub content : Content

@@ -6,17 +6,18 @@ use lib.ListN.{length}
 use lib.Dec.{leb}
 pub use Rattle.store.specs.Steps.{unnumbered, numbered}
 use Rattle.octets.specs.declared.Status.{Status}
-use Rattle.octets.specs.Status.{success, notAuthorized, insufficientMemory, apexTAMPAnchor, improperTAAddition, trustAnchorNotFound, unsupportedTrustAnchorFormat, improperTAChange}
+use Rattle.octets.specs.Status.{success, notAuthorized, insufficientMemory, apexTAMPAnchor, improperTAAddition, trustAnchorNotFound}
+use Rattle.octets.specs.Status.{unsupportedTrustAnchorFormat, improperTAChange}
 use Rattle.octets.specs.Limits.{maxAnchors}
 use Rattle.octets.specs.First.{givenIf}
-use Rattle.octets.specs.Lists.{anyOf, keep}
+use Rattle.octets.specs.Lists.{anyOf, filter}
 use Rattle.octets.specs.Octets.{same}
-use Rattle.der.specs.Element.{whole}
+use Rattle.der.specs.Element.{encoding}
 use Rattle.rights.specs.Rights.{Rights}
 use Rattle.rights.specs.Decision.{within}
 use Rattle.anchor.specs.Info.{publicKey, rightsOf}
-use Rattle.anchor.specs.Judge.{judge, statusOf, passes}
-use Rattle.store.specs.Store.{Anchor, keyOf, identifierOf}
+use Rattle.anchor.specs.Judge.{judge, checkStatus, passes}
+use Rattle.store.specs.Store.{Anchor, publicKeyOf, identifierOf}
 use Rattle.message.specs.declared.Entry.{Entry}
 use Rattle.message.specs.declared.Entry.the-variants as entry
 use Rattle.message.specs.Fields.{keyIn}
@@ -40,19 +41,19 @@ unfoldable pub added : Rights → Anchor → List Anchor → List Anchor → Lis
 added rights apex old new t =
     let stored = apex ∷ (old ++ new) in
     let u = storedAs rights t in
-    givenIf (not (passes (judge t))) (unchanged (statusOf (judge t)) old new)
+    givenIf (not (passes (judge t))) (unchanged (checkStatus (judge t)) old new)
     (givenIf (not (within rights (rightsOf t))) (unchanged notAuthorized old new)
     (givenIf (anyOf (λ a. same (a .info) u) stored) (unchanged success old new)
-    (givenIf (anyOf (λ a. same (keyOf a) (publicKey u)) stored) (unchanged improperTAAddition old new)
+    (givenIf (anyOf (λ a. same (publicKeyOf a) (publicKey u)) stored) (unchanged improperTAAddition old new)
     (givenIf (leb maxAnchors (length stored)) (unchanged insufficientMemory old new)
     (record { status = success; old = old; new = new ++ (unnumbered u ∷ []) })))))
 
 abbrev pub hasKey : List ℕ → Anchor → Bool
-hasKey key a = same (keyOf a) key
+hasKey key a = same (publicKeyOf a) key
 
 -- "later anchors move up"
 abbrev pub without : List ℕ → List Anchor → List Anchor
-without key l = keep (λ a. not (hasKey key a)) l
+without key l = filter (λ a. not (hasKey key a)) l
 
 -- remove: 25 no such key; 19 the apex; 11 not within the signer; else 0
 unfoldable pub removed : Rights → Anchor → List Anchor → List Anchor → List ℕ → Step
@@ -64,7 +65,7 @@ removed rights apex old new key =
 
 -- an entry of message s: add (34 for the certificate forms), remove, or change (35)
 unfoldable pub step : List ℕ → Rights → Anchor → List Anchor → List Anchor → Entry → Step
-step s rights apex old new (entry.Add e) = added rights apex old new (whole s e)
+step s rights apex old new (entry.Add e) = added rights apex old new (encoding s e)
 step s rights apex old new entry.AddCertificate = unchanged unsupportedTrustAnchorFormat old new
 step s rights apex old new (entry.Remove e) = removed rights apex old new (keyIn s e)
 step s rights apex old new entry.Change = unchanged improperTAChange old new
@@ -83,9 +84,9 @@ steps s rights apex old new (e ∷ es) =
     record { statuses = one .status ∷ rest .statuses; old = rest .old; new = rest .new }
 
 -- "tampSeqNumbers in order: each sets the number of every anchor with that identifier that this message appended and that still stands"
-unfoldable pub stamped : List ℕ × ℕ → Anchor → Anchor
-stamped p a = elim (same (identifierOf a) (p .0)) [ true ↦ numbered (p .1) a | false ↦ a ]
+unfoldable pub withSeqNumber : List ℕ × ℕ → Anchor → Anchor
+withSeqNumber p a = elim (same (identifierOf a) (p .0)) [ true ↦ numbered (p .1) a | false ↦ a ]
 
-unfoldable pub allStamped : List (List ℕ × ℕ) → List Anchor → List Anchor
-allStamped [] new = new
-allStamped (p ∷ ps) new = allStamped ps (map (stamped p) new)
+unfoldable pub withSeqNumbers : List (List ℕ × ℕ) → List Anchor → List Anchor
+withSeqNumbers [] new = new
+withSeqNumbers (p ∷ ps) new = withSeqNumbers ps (map (withSeqNumber p) new)

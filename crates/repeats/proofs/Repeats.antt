@@ -10,7 +10,7 @@ use Rattle.octets.specs.Octets.{member, distinct}
 use Rattle.octets.proofs.Lists.{by-test}
 use Rattle.der.specs.declared.Element.{Element}
 use Rattle.der.specs.Element.{elementAt, elements}
-use Rattle.der.proofs.Elements.{good-within, bounded, elements-end, elements-broken, elements-turn}
+use Rattle.der.proofs.Elements.{valid-within, bounded, elements-end, elements-broken, elements-turn}
 use Rattle.der.proofs.Runs.{Reached, reached-head, run-turn}
 use Rattle.der.specs.declared.Compared.{Compared}
 use Rattle.repeats.specs.declared.Repeat.{Repeat}
@@ -71,14 +71,14 @@ module _ (by : Compared) (s : List ℕ) where
     run-hit seen l m =
         ap (firstRepeat by s seen) (run-turn s at stop q l refl) ∙ first-hit seen e _ (moved e j seen m) ∙ ap At (bounded s at stop q .here)
 
-    pub run-broken : (seen : List (List ℕ)) → at < stop → member k seen ≡ false → e .good ≡ false → firstRepeat by s seen (elements s at stop) ≡ Never
+    pub run-broken : (seen : List (List ℕ)) → at < stop → member k seen ≡ false → e .valid ≡ false → firstRepeat by s seen (elements s at stop) ≡ Never
     run-broken seen l m g =
         ap (firstRepeat by s seen) (elements-broken s at stop q l g) ∙ first-miss seen e [] (moved e j seen m) ∙ first-none _
 
-    module _ (h : List (List ℕ)) {start : ℕ} (r : Reached s start at) (g : e .good ≡ true) where
+    module _ (h : List (List ℕ)) {start : ℕ} (r : Reached s start at) (g : e .valid ≡ true) where
       pub seen-on : (h ++ keysFrom by s start at) ++ (k ∷ []) ≡ h ++ keysFrom by s start (e .stop)
       seen-on =
-          let w = good-within s at stop q g in
+          let w = valid-within s at stop q g in
           let f = reached-head r stop q g (e .stop) (omega arith) (omega (arith, w)) ∙ ap (λ (x : List Element). elements s start at ++ (e ∷ x)) (elements-end s (e .stop) (e .stop) (omega arith)) in
           append-assoc h (keysFrom by s start at) (k ∷ [])
           ∙ ap (λ (x : List ℕ). h ++ (keysFrom by s start at ++ (x ∷ []))) j
@@ -103,20 +103,20 @@ module _ (by : Compared) (s : List ℕ) where
       by-test (member (key e) seen)
       (λ m. ap (λ (r : Repeat). isAt r p) (run-hit at stop refl refl seen b m) ∙ ne-eqb at p (λ x. omega (arith, x, l)))
       (λ m.
-      by-test (e .good)
+      by-test (e .valid)
       (λ g.
-      let w = good-within s at stop refl g in
+      let w = valid-within s at stop refl g in
       ap (λ (r : Repeat). isAt r p) (ap (firstRepeat by s seen) (elements-turn s at stop refl g) ∙ first-miss seen e _ m)
       ∙ run-later n (seen ++ (key e ∷ [])) (e .stop) stop (omega (arith, w, h)) (omega (arith, w, l)))
       (λ g. ap (λ (r : Repeat). isAt r p) (run-broken at stop refl refl seen b m g))))
       (λ t. ap (λ (r : Repeat). isAt r p) (run-never seen at stop (ltb-false at stop t)))
 
   -- whether it is the one at a place that the run reaches
-  pub run-is : (at stop : ℕ) {e : Element} → e ≡ elementAt s at stop → e .good ≡ true → (start : ℕ) → Reached s start at
+  pub run-is : (at stop : ℕ) {e : Element} → e ≡ elementAt s at stop → e .valid ≡ true → (start : ℕ) → Reached s start at
       → isAt (firstRepeat by s (keysFrom by s start at) (elements s at stop)) at ≡ member (key e) (keysFrom by s start at)
   run-is at stop {e} q g start r =
       let seen = keysFrom by s start at in
-      let w = good-within s at stop q g in
+      let w = valid-within s at stop q g in
       by-test (member (key e) seen)
       (λ m. ap (λ (x : Repeat). isAt x at) (run-hit at stop q refl seen (omega (arith, w)) m) ∙ eq-eqb at at refl ∙ sym m)
       (λ m. ap (λ (x : Repeat). isAt x at) (run-on at stop q refl [] r g m) ∙ run-later (stop - e .stop) _ (e .stop) stop (omega arith) (omega (arith, w)) ∙ sym m)

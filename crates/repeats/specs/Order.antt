@@ -1,5 +1,5 @@
 -- Places of members, sorted by key, as a search reads them. Nothing is asked of them: whatever they are, they lead from equal keys to one place, so a key that
--- leads to a place behind all that the keys before it lead to is none of them.
+-- leads to a place after all that the keys before it lead to is none of them.
 use Prim.Native.Nat.{ℕ, zero, suc, _+_, _/_, _<_}
 use mathlib.Core.Bool.{Bool, true, false, not, _&&_}
 use mathlib.Core.List.{List}

@@ -1,5 +1,5 @@
 // Repeats: whether two members of lists have the same key. The members' places are sorted by key, so that a search of twelve steps leads from a key to the
-// member that has it. Nothing is claimed of that order: a key that leads to its own member, behind all that those before it led to, is new, whatever the
+// member that has it. Nothing is claimed of that order: a key that leads to its own member, after all that those before it led to, is new, whatever the
 // order is, since equal keys lead to one place. From the first key on that does not, members are compared.
 use der::Compared;
 use der::Element;
@@ -24,7 +24,7 @@ pub enum Repeat {
 // Members in no more octets are few.
 const FEW_OCTETS: usize = 128;
 
-// The members' places in the order of their keys, from the second cell on; 0 behind them. A message has room for no more members, at two octets each.
+// The members' places in the order of their keys, from the second cell on; 0 after them. A message has room for no more members, at two octets each.
 const CELLS: usize = 4096;
 
 const MAX_PLACE: usize = 65535;
@@ -35,7 +35,7 @@ fn wide(x: u16) -> usize
     x as usize
 }
 
-// What stands in a cell, 0 behind the end.
+// What stands in a cell, 0 after the end.
 fn cell(order: &[u16], i: usize) -> usize
     ensures { λ r. ⌜ r ≡ getD (now (order .entry)) i 0 ⌝ }
 {
@@ -103,7 +103,7 @@ fn make_room(order: &mut [u16], p: usize, n: usize)
     }
 }
 
-// Inserts the place of a member, behind n others, unless its key is there already.
+// Inserts the place of a member, after n others, unless its key is there already.
 fn insert(order: &mut [u16], s: &[u8], e: Element, by: Compared, n: usize) -> bool
     requires { ⌜ (length (now order) ≡ cells) × (n + 1 < cells) ⌝ }
     ensures { λ r. ⌜ length (now (order .exit)) ≡ cells ⌝ }
@@ -128,7 +128,7 @@ fn insert(order: &mut [u16], s: &[u8], e: Element, by: Compared, n: usize) -> bo
     true
 }
 
-// Inserts the members of a list behind n others, up to one whose key is there already. Gives how many are there.
+// Inserts the members of a list after n others, up to one whose key is there already. Gives how many are there.
 fn insert_all(order: &mut [u16], s: &[u8], list: Element, by: Compared, n: usize) -> usize
     requires { ⌜ length (now order) ≡ cells ⌝ }
     ensures { λ r. ⌜ length (now (order .exit)) ≡ cells ⌝ }
@@ -217,7 +217,7 @@ fn search(
         if is_seen(s, head, list, i, by, k, led) {
             return Repeat::At(i);
         }
-        if !e.good {
+        if !e.valid {
             return Repeat::Never;
         }
         i = e.stop;

@@ -13,7 +13,8 @@ use Rattle.reply.specs.declared.Listed.the-variants.{Identifiers, Commun
 use Rattle.reply.specs.declared.Part.{Part}
 use Rattle.reply.specs.declared.Part.the-variants.{Octets, Header, Codes, List as ListOf}
 use Rattle.reply.specs.Replies.{statusCode, listOf, tampError, statusResponse, updateConfirm}
-use Rattle.reply.specs.Parts.{statusOf, elementSize, statusCodes, partOf, joined, fiveParts, behindHeader, replyParts, identifierParts, communityParts}
+use Rattle.reply.specs.Parts.{statusNumbered, elementSize, statusCodes, partOf, joined, fiveParts, behindHeader, replyParts, identifierParts}
+use Rattle.reply.specs.Parts.{communityParts}
 use Rattle.reply.specs.Parts.{terseSize, responseOf}
 use Rattle.reply.proofs.Elements.{length-element, element-is}
 use Rattle.reply.proofs.Codes.{one-status, length-code, length-statuses, length-codes}
@@ -49,10 +50,10 @@ module _ (lead : List ℕ) (tag m after : ℕ) (first : List ℕ) (a : Part) (s 
 
 -- TAMPError: msgType, a code, msgRef
 module _ (msgType : List ℕ) (status : Status) (msgRef : List ℕ) where
-  abbrev behindType : List ℕ
-  behindType = behindHeader msgType Codes (status .number ∷ []) Octets msgRef Octets []
+  abbrev afterType : List ℕ
+  afterType = behindHeader msgType Codes (status .number ∷ []) Octets msgRef Octets []
 
-  pub error-rest : length msgType + (3 + length msgRef) ≡ length behindType
+  pub error-rest : length msgType + (3 + length msgRef) ≡ length afterType
   unfolding partOf
   error-rest =
       let codes = statusCodes (status .number ∷ []) in
@@ -67,18 +68,18 @@ module _ (msgType : List ℕ) (status : Status) (msgRef : List ℕ) where
   pub error-size : length (tampError msgType status msgRef) ≡ elementSize (0 + elementSize (length msgType) + (3 + length msgRef))
   unfolding tampError
   error-size =
-      let behind = statusCode status ++ msgRef in
-      length-element 0x30 (element 0x06 msgType ++ behind)
+      let after = statusCode status ++ msgRef in
+      length-element 0x30 (element 0x06 msgType ++ after)
       ∙ ap elementSize
       (omega (
         arith,
-        length-append (element 0x06 msgType) behind,
+        length-append (element 0x06 msgType) after,
         length-element 0x06 msgType,
         length-append (statusCode status) msgRef,
         length-code status,
       ))
 
-  pub error-is : replyParts [] 0x06 (length msgType) behindType ≡ tampError msgType status msgRef
+  pub error-is : replyParts [] 0x06 (length msgType) afterType ≡ tampError msgType status msgRef
   unfolding partOf tampError
   error-is =
       ap (element 0x30)
@@ -120,7 +121,7 @@ module _ (msgRef : List ℕ) where
     pub update-rest : 3 * length codes + 0 ≡ length terseConfirm
     update-rest = omega (arith, ap length confirm-codes, length-codes codes)
 
-    pub update-is : replyParts msgRef 0xA0 (3 * length codes) terseConfirm ≡ updateConfirm msgRef (map statusOf codes)
+    pub update-is : replyParts msgRef 0xA0 (3 * length codes) terseConfirm ≡ updateConfirm msgRef (map statusNumbered codes)
     unfolding updateConfirm statusCodes
     update-is = answer-is 0xA0 (statusCodes codes) (sym (length-codes codes)) confirm-codes
 

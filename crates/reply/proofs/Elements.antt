@@ -1,4 +1,4 @@
--- Elements as they are written: their sizes, and a header and what stands behind it, one call after the other.
+-- Elements as they are written: their sizes, and a header and what stands after it, one call after the other.
 use Prim.Native.Nat.{ℕ, _+_, _≤_}
 use native.Mathlib.Omega.{arith}
 use mathlib.Core.List.{List, _++_}
@@ -9,7 +9,7 @@ use borrow.Author.Tests.{ltb-true, ltb-false}
 use Rattle.octets.specs.Octets.{placed}
 use Rattle.octets.proofs.Lists.{by-test}
 use Rattle.octets.proofs.Number.{length-digits}
-use Rattle.octets.proofs.Turns.{Left, left-start, left-fits, left-step, last-fits, last-step}
+use Rattle.octets.proofs.Turns.{Unwritten, left-start, left-fits, left-step, last-fits, last-step}
 use Rattle.der.specs.Write.{lengthOctets, header, element}
 use Rattle.der.proofs.Writes.{short-octets, long-octets}
 use Rattle.reply.specs.Parts.{elementSize}
@@ -40,11 +40,11 @@ module _ (d : List ℕ) (at : ℕ) {all : List ℕ} (room : at + length all ≤ 
   first-fits = left-fits d at all room (left-start d at all) s t is
 
   module _ {m : ℕ} {r : List ℕ} (k : Wrote d at s m r) where
-    behind-first : Left d at all r m t
-    behind-first = left-step d at all room (left-start d at all) s t is k
+    after-first : Unwritten d at all r m t
+    after-first = left-step d at all room (left-start d at all) s t is k
 
     pub second-fits : m + length t ≤ length r
-    second-fits = last-fits d at all room behind-first
+    second-fits = last-fits d at all room after-first
 
     pub both-written : {n : ℕ} {u : List ℕ} → Wrote r m t n u → Wrote d at all n u
-    both-written = last-step d at all room behind-first
+    both-written = last-step d at all room after-first

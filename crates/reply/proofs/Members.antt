@@ -8,7 +8,7 @@ use lib.ListN.{length, take, drop, length-append, length-take, length-drop}
 use lib.Seq.{take-all}
 use lib.Dec.{eqb}
 use borrow.Author.Tests.{eqb-true, eqb-false}
-use Rattle.octets.specs.Octets.{Octets, part}
+use Rattle.octets.specs.Octets.{Octets, slice}
 use Rattle.octets.proofs.Lists.{by-test}
 use Rattle.der.specs.Write.{header, element}
 use Rattle.anchor.specs.Info.{keyIdField}
@@ -19,7 +19,8 @@ use Rattle.store.proofs.Walk.{records-of, records-turn, names-turn}
 use Rattle.reply.specs.declared.Listed.{Listed}
 use Rattle.reply.specs.declared.Listed.the-variants.{Identifiers, Communities}
 use Rattle.reply.specs.Replies.{listOf}
-use Rattle.reply.specs.Parts.{elementSize, rowsIn, countIn, memberAt, memberEnd, tagOf, contentsFrom, membersFrom, listed, identifierParts, communityParts}
+use Rattle.reply.specs.Parts.{elementSize, rowsIn, countIn, memberAt, memberEnd, tagOf, contentsFrom, membersFrom, listed, identifierParts}
+use Rattle.reply.specs.Parts.{communityParts}
 use Rattle.reply.proofs.Elements.{length-element, length-octets, element-is}
 
 -- what is listed is the store's
@@ -81,11 +82,11 @@ module _ (by : Listed) (s : List ℕ) where
       ∙ ap (λ (k : ℕ). k + length (membersFrom by (left - 1) (drop e s))) (length-element (tagOf by) x)
 
 -- the octets from a place on
-pub part-rest : (s : List ℕ) (p : ℕ) → part s p (length s) ≡ drop p s
-part-rest s p = take-all (length s - p) (drop p s) (omega (arith, length-drop p s))
+pub slice-rest : (s : List ℕ) (p : ℕ) → slice s p (length s) ≡ drop p s
+slice-rest s p = take-all (length s - p) (drop p s) (omega (arith, length-drop p s))
 
-part-short : (s : List ℕ) (a e : ℕ) → length (part s a e) ≤ length s
-part-short s a e = rw (length-take (e - a) (drop a s), length-drop a s) (omega arith)
+slice-short : (s : List ℕ) (a e : ℕ) → length (slice s a e) ≤ length s
+slice-short s a e = rw (length-take (e - a) (drop a s), length-drop a s) (omega arith)
 
 -- a member is no longer than the octets in which it stands; those are no longer than the image, and their count is an octet
 member-short : (by : Listed) (s : List ℕ) (p : ℕ) → length (memberAt by s p) ≤ length s
@@ -93,8 +94,8 @@ member-short Identifiers s p =
     let r = recordAt s p in
     let t = infoIn r in
     let f = keyIdField t in
-    omega (arith, part-short t (f .start) (f .stop), length-drop 11 r, part-short s p (recordEnd s p))
-member-short Communities s p = part-short s (p + 1) (nameEnd s p)
+    omega (arith, slice-short t (f .start) (f .stop), length-drop 11 r, slice-short s p (recordEnd s p))
+member-short Communities s p = slice-short s (p + 1) (nameEnd s p)
 
 rows-short : (by : Listed) (image : List ℕ) → length (rowsIn by image) ≤ length image
 unfolding communityOctets

@@ -7,7 +7,8 @@ use Rattle.octets.specs.declared.Status.{Status}
 use Rattle.octets.specs.Octets.{placed}
 use Rattle.der.specs.Write.{lengthOctets, header, element}
 use Rattle.store.specs.Records.{recordsFrom, recordsOf}
-use Rattle.store.specs.Parts.{anchorCount, firstRecord, recordAt, recordEnd, identifierIn, communityCount, communityOctets, nameAt, nameEnd, namesFrom, communitiesOf}
+use Rattle.store.specs.Parts.{anchorCount, firstRecord, recordAt, recordEnd, identifierIn, communityCount, communityOctets, nameAt, nameEnd, namesFrom}
+use Rattle.store.specs.Parts.{communitiesOf}
 use Rattle.reply.specs.declared.Writer.{Writer}
 use Rattle.reply.specs.declared.Listed.{Listed}
 use Rattle.reply.specs.declared.Listed.the-variants.{Identifiers, Communities}
@@ -16,8 +17,8 @@ use Rattle.reply.specs.declared.Part.the-variants.{Octets, Header, Codes
 use Rattle.reply.specs.Replies.{statusCode, listOf, statusResponse}
 
 -- a status by its number
-abbrev pub statusOf : ℕ → Status
-statusOf code = record { number = code }
+abbrev pub statusNumbered : ℕ → Status
+statusNumbered code = record { number = code }
 
 -- the response to a query with this msgRef, of the store with this image
 abbrev pub responseOf : List ℕ → List ℕ → List ℕ
@@ -72,7 +73,7 @@ listed by image = contentsFrom by (countIn by image) (rowsIn by image)
 
 -- a StatusCodeList's members, of codes that stand as octets
 unfoldable pub statusCodes : List ℕ → List ℕ
-statusCodes codes = flatMap statusCode (map statusOf codes)
+statusCodes codes = flatMap statusCode (map statusNumbered codes)
 
 -- a part of a reply, of the octets that are given with it
 unfoldable pub partOf : Part → List ℕ → List ℕ
@@ -93,7 +94,7 @@ joined (s ∷ l) = s ++ joined l
 unfoldable pub fiveParts : Part → List ℕ → Part → List ℕ → Part → List ℕ → Part → List ℕ → Part → List ℕ → List ℕ
 fiveParts a s b t c u d v e x = joined (partOf a s ∷ partOf b t ∷ partOf c u ∷ partOf d v ∷ partOf e x ∷ [])
 
--- what stands behind a reply's second header: octets, and three parts
+-- what stands after a reply's second header: octets, and three parts
 abbrev pub behindHeader : List ℕ → Part → List ℕ → Part → List ℕ → Part → List ℕ → List ℕ
 behindHeader first a s b t c u = first ++ (partOf a s ++ (partOf b t ++ (partOf c u ++ [])))
 

@@ -8,17 +8,7 @@ ghost use Rattle.octets.specs.declared.Status.{Status};
 ghost use Rattle.octets.specs.Limits.{maxMessage};
 ghost use Rattle.der.specs.Write.{element};
 ghost use Rattle.reply.specs.Replies.{tampError, updateConfirm, communityConfirm, adjustConfirm};
-ghost use Rattle.reply.specs.Parts.{
-  statusOf,
-  elementSize,
-  partOf,
-  wrote,
-  fiveParts,
-  behindHeader,
-  replyParts,
-  terseSize,
-  responseOf,
-};
+ghost use Rattle.reply.specs.Parts.{statusNumbered, elementSize, partOf, wrote, fiveParts, behindHeader, replyParts, terseSize, responseOf};
 use octets::Status;
 
 mod parts;
@@ -91,7 +81,7 @@ fn put_parts<'a, 'b>(
     w.at
 }
 
-// A reply: what stands first in it, and the header of an element of m octets, with `first` and three parts behind it, of which `after` octets stand after that element.
+// A reply: what stands first in it, and the header of an element of m octets, with `first` and three parts after it, of which `after` octets stand after that element.
 fn put_reply<'a, 'b>(
     buf: &'a mut [u8],
     lead: &'b [u8],
@@ -120,7 +110,7 @@ fn put_reply<'a, 'b>(
     let n = lead.len() + parts::element_size(m) + after;
     put_parts(
         buf,
-        Part::Header(0x30, n),
+        Part::Header(der::SEQUENCE, n),
         lead,
         Part::Header(tag, m),
         first,
@@ -199,7 +189,7 @@ pub fn put_error<'a, 'b>(
     put_reply(
         buf,
         none,
-        0x06,
+        der::OBJECT_IDENTIFIER,
         msgtype.len(),
         3 + msgref.len(),
         msgtype,
@@ -214,15 +204,15 @@ pub fn put_error<'a, 'b>(
 
 // TAMPUpdateConfirm, of the entries' statuses as octets
 pub fn put_update_confirm<'a, 'b>(buf: &'a mut [u8], msgref: &'b [u8], codes: &'b [u8]) -> usize
-    requires { ⌜ length (updateConfirm (now msgref) (map statusOf (now codes))) ≤ length (now buf) ⌝ }
-    ensures { λ r. ⌜ (r ≡ length (updateConfirm (now (msgref .entry)) (map statusOf (now (codes .entry)))))
-        × (now (buf .exit) ≡ placed (now (buf .entry)) 0 (updateConfirm (now (msgref .entry)) (map statusOf (now (codes .entry))))) ⌝ }
+    requires { ⌜ length (updateConfirm (now msgref) (map statusNumbered (now codes))) ≤ length (now buf) ⌝ }
+    ensures { λ r. ⌜ (r ≡ length (updateConfirm (now (msgref .entry)) (map statusNumbered (now (codes .entry)))))
+        × (now (buf .exit) ≡ placed (now (buf .entry)) 0 (updateConfirm (now (msgref .entry)) (map statusNumbered (now (codes .entry))))) ⌝ }
 {
     let none = &msgref[..0];
     put_reply(
         buf,
         msgref,
-        0xA0,
+        der::CONSTRUCTED_0,
         3 * codes.len(),
         0,
         none,
@@ -265,7 +255,7 @@ pub fn put_community_confirm(buf: &mut [u8], msgref: &[u8], status: Status) -> u
     ensures { λ r. ⌜ (r ≡ length (communityConfirm (now (msgref .entry)) status))
         × (now (buf .exit) ≡ placed (now (buf .entry)) 0 (communityConfirm (now (msgref .entry)) status)) ⌝ }
 {
-    put_code_confirm(buf, msgref, 0x80, status.number)
+    put_code_confirm(buf, msgref, der::CONTEXT_0, status.number)
 }
 
 // SequenceNumberAdjustConfirm
@@ -274,7 +264,7 @@ pub fn put_adjust_confirm(buf: &mut [u8], msgref: &[u8]) -> usize
     ensures { λ r. ⌜ (r ≡ length (adjustConfirm (now (msgref .entry))))
         × (now (buf .exit) ≡ placed (now (buf .entry)) 0 (adjustConfirm (now (msgref .entry)))) ⌝ }
 {
-    put_code_confirm(buf, msgref, 0x0A, 0)
+    put_code_confirm(buf, msgref, der::ENUMERATED, 0)
 }
 
 // TAMPStatusResponse, of the store with this image, whose terse response has m octets
@@ -292,7 +282,7 @@ pub fn put_status_response<'a, 'b>(
     put_reply(
         buf,
         msgref,
-        0xA0,
+        der::CONSTRUCTED_0,
         m,
         0,
         none,

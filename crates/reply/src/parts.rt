@@ -35,7 +35,7 @@ fn put_codes(buf: &mut [u8], at: usize, codes: &[u8]) -> usize
     let mut p = at;
     let mut i = 0;
     while i < codes.len() {
-        let code = [0x0A, 1, codes[i]];
+        let code = [der::ENUMERATED, 1, codes[i]];
         p = put_octets(buf, p, &code);
         i += 1;
     }
@@ -56,7 +56,7 @@ fn rows(by: Listed, image: &[u8]) -> &[u8]
     ensures { λ r. ⌜ now r ≡ rowsIn by (now (image .entry)) ⌝ }
 {
     match by {
-        Listed::Identifiers => octets::part(image, store::first_record(image), image.len()),
+        Listed::Identifiers => octets::slice(image, store::first_record(image), image.len()),
         Listed::Communities => store::community_octets(image),
     }
 }
@@ -74,8 +74,8 @@ fn tag(by: Listed) -> u8
     ensures { λ r. ⌜ r ≡ tagOf by ⌝ }
 {
     match by {
-        Listed::Identifiers => 0x04,
-        Listed::Communities => 0x06,
+        Listed::Identifiers => der::OCTET_STRING,
+        Listed::Communities => der::OBJECT_IDENTIFIER,
     }
 }
 
@@ -154,7 +154,7 @@ fn put_list(buf: &mut [u8], at: usize, by: Listed, image: &[u8]) -> usize
         return at;
     }
     let rows = rows(by, image);
-    let p = der::put_header(buf, at, 0x30, members_size(by, rows, n));
+    let p = der::put_header(buf, at, der::SEQUENCE, members_size(by, rows, n));
     put_members(buf, p, by, rows, n)
 }
 

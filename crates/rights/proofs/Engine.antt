@@ -9,8 +9,8 @@ use borrow.Author.Tests.{not-true, not-false}
 use Rattle.octets.specs.Octets.{member}
 use Rattle.der.specs.declared.Element.{Element}
 use Rattle.der.specs.declared.Compared.{Compared}
-use Rattle.der.specs.declared.Compared.the-variants.{Types, Octets}
-use Rattle.der.specs.Element.{elementAt, nextAt, elements, root, whole, inside, field}
+use Rattle.der.specs.declared.Compared.the-variants.{Types, Encodings}
+use Rattle.der.specs.Element.{elementAt, nextAt, elements, root, encoding, inside, field}
 use Rattle.der.specs.Keys.{typeOf, keyOf, keysFrom, keysIn}
 use Rattle.der.proofs.Keys.{first-key}
 use Rattle.der.proofs.Loops.{loop-end, loop-turn}
@@ -18,37 +18,20 @@ use Rattle.der.specs.declared.Found.{Found}
 use Rattle.der.specs.declared.Found.the-variants.{At, Nowhere}
 use Rattle.rights.specs.declared.Excess.{Excess}
 use Rattle.rights.specs.declared.Excess.the-variants.{Carried, Sourced, Listed, Unlisted}
-use Rattle.rights.specs.declared.Judged.{Judged}
-use Rattle.rights.specs.declared.Judged.the-variants as judged
+use Rattle.rights.specs.declared.TypeAnswer.{TypeAnswer}
+use Rattle.rights.specs.declared.TypeAnswer.the-variants as judged
 use Rattle.rights.specs.declared.Picked.{Picked}
 use Rattle.rights.specs.declared.Picked.the-variants as picked
 use Rattle.rights.specs.declared.Lister.{Lister}
 use Rattle.rights.specs.declared.Lister.the-variants.{New, Signer, Nobody}
-use Rattle.rights.specs.declared.Answer.{Answer}
-use Rattle.rights.specs.declared.Answer.the-variants as answer
+use Rattle.rights.specs.declared.RightsAnswer.{RightsAnswer}
+use Rattle.rights.specs.declared.RightsAnswer.the-variants as answer
 use Rattle.rights.specs.Rights.{Key, Content, source}
-use Rattle.rights.specs.Decision.{
-  oid,
-  integer,
-  fresh,
-  keys,
-  findSome,
-  unlisted,
-  valueOutside,
-  attributeOutside,
-  pairOutside,
-  roleOutside,
-  onePair,
-  entryOutside,
-  typeOutside,
-  listedTypes,
-  unlistedType,
-  outside,
-  within,
-}
+use Rattle.rights.specs.Decision.{oid, integer, fresh, keys, findSome, unlisted, valueOutside, attributeOutside, pairOutside, roleOutside, onePair}
+use Rattle.rights.specs.Decision.{entryOutside, typeOutside, listedTypes, unlistedType, outside, within}
 use Rattle.rights.specs.Constraints.{constraintsRights}
-use Rattle.rights.specs.Places.{constraintFor, valuesUnder, anyEntry, governingEntry, entryOf, holding}
-use Rattle.rights.specs.Answer.{excessContent, judgedContent, pickedContent, listedType, contentOf}
+use Rattle.rights.specs.Places.{constraintFor, valuesUnder, anyEntry, governingEntry, rightsEntry, holding}
+use Rattle.rights.specs.RightsAnswer.{excessContent, judgedContent, pickedContent, listedType, contentOf}
 use Rattle.rights.proofs.Places.{values-under, governing-entry, any-entry, listed-types, constrained-types}
 use Rattle.rights.proofs.Types.{governing-unlisted, neither-lists, unlistedType-new}
 
@@ -57,7 +40,7 @@ use Rattle.rights.proofs.Types.{governing-unlisted, neither-lists, unli
 module _ (signer new : List ℕ) (s n : Element) (k : Key) where
   -- what lies outside by this attribute, as a content of some type
   abbrev attribute : Key → Option Content
-  attribute type = Option·map (onePair type) (attributeOutside (entryOf signer s .constraints) (entryOf new n .constraints) k)
+  attribute type = Option·map (onePair type) (attributeOutside (rightsEntry signer s .constraints) (rightsEntry new n .constraints) k)
 
   module _ {f : Found} (h₁ : f ≡ constraintFor signer s k) where
     pub attribute-free : f ≡ Nowhere → (type : Key) → judgedContent signer new type judged.Within ≡ attribute type
@@ -74,7 +57,7 @@ module _ (signer new : List ℕ) (s n : Element) (k : Key) where
       unfolding judgedContent excessContent attributeOutside valueOutside holding
       attribute-open g₂ q type = rw (values-under signer s k, values-under new n k, sym h₁ ∙ g₁, sym h₂ ∙ g₂, typed, q)
 
-      module _ {b : Element} (g₂ : g ≡ At b) (u : Found) (h₃ : holding (whole new) u ≡ findSome (unlisted (valuesUnder signer a)) (valuesUnder new b)) where
+      module _ {b : Element} (g₂ : g ≡ At b) (u : Found) (h₃ : holding (encoding new) u ≡ findSome (unlisted (valuesUnder signer a)) (valuesUnder new b)) where
         pub attribute-value : {w : Element} → u ≡ At w → (type : Key) → judgedContent signer new type (judged.Outside (Listed a w)) ≡ attribute type
         unfolding judgedContent excessContent attributeOutside valueOutside holding
         attribute-value q type = rw (values-under signer s k, values-under new n k, sym h₁ ∙ g₁, sym h₂ ∙ g₂, ← h₃, q, typed)
@@ -112,39 +95,39 @@ module _ {A : Type 0} (f : Key → Option A) (by : Compared) (v : List ℕ) wher
 -- the first value that is not listed
 
 module _ (values : List Key) (new : List ℕ) (constraint : Element) {list : Element} (o : list ≡ field 0x31 new constraint) (i : ℕ)
-    (rest : findSome (unlisted values) (keysFrom Octets new i (list .stop)) ≡ findSome (unlisted values) (keysIn Octets new list)) where
-  unlisted-all : findSome (unlisted values) (keysIn Octets new list) ≡ findSome (unlisted values) (valuesUnder new constraint)
-  unlisted-all = ap (λ (x : Element). findSome (unlisted values) (keysIn Octets new x)) o
+    (rest : findSome (unlisted values) (keysFrom Encodings new i (list .stop)) ≡ findSome (unlisted values) (keysIn Encodings new list)) where
+  unlisted-all : findSome (unlisted values) (keysIn Encodings new list) ≡ findSome (unlisted values) (valuesUnder new constraint)
+  unlisted-all = ap (λ (x : Element). findSome (unlisted values) (keysIn Encodings new x)) o
 
-  pub unlisted-end : list .stop ≤ i → holding (whole new) Nowhere ≡ findSome (unlisted values) (valuesUnder new constraint)
+  pub unlisted-end : list .stop ≤ i → holding (encoding new) Nowhere ≡ findSome (unlisted values) (valuesUnder new constraint)
   unfolding holding
-  unlisted-end l = answer-end (unlisted values) Octets new i (list .stop) rest l ∙ unlisted-all
+  unlisted-end l = answer-end (unlisted values) Encodings new i (list .stop) rest l ∙ unlisted-all
 
-  module _ (l : i < list .stop) {e : Element} (q : e ≡ elementAt new i (list .stop)) {t : Key} (w : t ≡ whole new e) {r : Bool} (h : r ≡ member t values) where
-    pub unlisted-here : not r ≡ true → holding (whole new) (At e) ≡ findSome (unlisted values) (valuesUnder new constraint)
+  module _ (l : i < list .stop) {e : Element} (q : e ≡ elementAt new i (list .stop)) {t : Key} (w : t ≡ encoding new e) {r : Bool} (h : r ≡ member t values) where
+    pub unlisted-here : not r ≡ true → holding (encoding new) (At e) ≡ findSome (unlisted values) (valuesUnder new constraint)
     unfolding holding unlisted keyOf
     unlisted-here b =
         let m = ap (λ (k : Key). member k values) (sym w) ∙ sym h ∙ not-true r b in
-        sym (answer-here (unlisted values) Octets new i (list .stop) rest l q (rw (m, unlisted))) ∙ unlisted-all
+        sym (answer-here (unlisted values) Encodings new i (list .stop) rest l q (rw (m, unlisted))) ∙ unlisted-all
 
     pub unlisted-later : not r ≡ false → {j : ℕ} → j ≡ nextAt e (list .stop)
-        → findSome (unlisted values) (keysFrom Octets new j (list .stop)) ≡ findSome (unlisted values) (keysIn Octets new list)
+        → findSome (unlisted values) (keysFrom Encodings new j (list .stop)) ≡ findSome (unlisted values) (keysIn Encodings new list)
     unfolding unlisted keyOf
     unlisted-later b n =
         let m = ap (λ (k : Key). member k values) (sym w) ∙ sym h ∙ not-false r b in
-        answer-later (unlisted values) Octets new i (list .stop) rest l q (rw (m, unlisted)) n
+        answer-later (unlisted values) Encodings new i (list .stop) rest l q (rw (m, unlisted)) n
 
 -- of all attribute types that the signer's entry constrains
 
 module _ (signer new : List ℕ) (s n : Element) where
   abbrev of-type : Key → Option (Key × Key)
-  of-type = attributeOutside (entryOf signer s .constraints) (entryOf new n .constraints)
+  of-type = attributeOutside (rightsEntry signer s .constraints) (rightsEntry new n .constraints)
 
   abbrev pair : Key → Option Content
-  pair type = Option·map (onePair type) (pairOutside (entryOf signer s .constraints) (entryOf new n .constraints))
+  pair type = Option·map (onePair type) (pairOutside (rightsEntry signer s .constraints) (rightsEntry new n .constraints))
 
   pair-types : {outer : Element} → outer ≡ field 0x30 signer s
-      → findSome of-type (keysIn Types signer outer) ≡ pairOutside (entryOf signer s .constraints) (entryOf new n .constraints)
+      → findSome of-type (keysIn Types signer outer) ≡ pairOutside (rightsEntry signer s .constraints) (rightsEntry new n .constraints)
   unfolding pairOutside
   pair-types o = ap (λ (x : Element). findSome of-type (keysIn Types signer x)) o ∙ ap (findSome of-type) (sym (constrained-types signer s))
 
@@ -154,7 +137,7 @@ module _ (signer new : List ℕ) (s n : Element) where
     unfolding judgedContent
     pair-end l type = ap (Option·map (onePair type)) (answer-end of-type Types signer i (outer .stop) rest l ∙ pair-types o)
 
-    module _ (l : i < outer .stop) {e : Element} (q : e ≡ elementAt signer i (outer .stop)) {t : Key} (w : t ≡ typeOf signer e) {r : Judged}
+    module _ (l : i < outer .stop) {e : Element} (q : e ≡ elementAt signer i (outer .stop)) {t : Key} (w : t ≡ typeOf signer e) {r : TypeAnswer}
         (h : (type : Key) → judgedContent signer new type r ≡ Option·map (onePair type) (of-type t)) where
       pub pair-here : {x : Excess} → r ≡ judged.Outside x → (type : Key) → judgedContent signer new type (judged.Outside x) ≡ pair type
       unfolding judgedContent keyOf
@@ -201,7 +184,7 @@ module _ (a b : Bool) {x : Bool} (h : x ≡ b) where
 
 module _ (signer new : List ℕ) (a b : Found) where
   abbrev entry : Key → Option Content
-  entry type = entryOutside type (holding (entryOf signer) a) (holding (entryOf new) b)
+  entry type = entryOutside type (holding (rightsEntry signer) a) (holding (rightsEntry new) b)
 
   pub entry-within : b ≡ Nowhere → (type : Key) → judgedContent signer new type judged.Within ≡ entry type
   unfolding judgedContent entryOutside holding
@@ -212,15 +195,15 @@ module _ (signer new : List ℕ) (a b : Found) where
     unfolding judgedContent excessContent entryOutside holding
     entry-carried g type = rw (h, g)
 
-    module _ {s : Element} (g : a ≡ At s) {c : Bool} (q : c ≡ entryOf new n .canSource && not (entryOf signer s .canSource)) where
+    module _ {s : Element} (g : a ≡ At s) {c : Bool} (q : c ≡ rightsEntry new n .canSource && not (rightsEntry signer s .canSource)) where
       pub entry-sourced : c ≡ true → (type : Key) → judgedContent signer new type (judged.Outside Sourced) ≡ entry type
       unfolding judgedContent excessContent entryOutside holding orElse
-      entry-sourced r type = rw (h, g, role-out (entryOf signer s .canSource) (entryOf new n .canSource) (sym q ∙ r))
+      entry-sourced r type = rw (h, g, role-out (rightsEntry signer s .canSource) (rightsEntry new n .canSource) (sym q ∙ r))
 
-      pub entry-pair : c ≡ false → (j : Judged) → ((type : Key) → judgedContent signer new type j ≡ pair signer new s n type)
+      pub entry-pair : c ≡ false → (j : TypeAnswer) → ((type : Key) → judgedContent signer new type j ≡ pair signer new s n type)
           → (type : Key) → judgedContent signer new type j ≡ entry type
       unfolding entryOutside holding orElse
-      entry-pair r j p type = rw (h, g, role-in (entryOf signer s .canSource) (entryOf new n .canSource) (sym q ∙ r)) (p type)
+      entry-pair r j p type = rw (h, g, role-in (rightsEntry signer s .canSource) (rightsEntry new n .canSource) (sym q ∙ r)) (p type)
 
 -- of a type, by the entries that govern it
 
@@ -229,12 +212,12 @@ module _ (signer new : List ℕ) where
   of-content-type = typeOutside (constraintsRights signer) (constraintsRights new)
 
   pub type-governed :
-      (k : Key) {a : Found} → a ≡ governingEntry signer k → {b : Found} → b ≡ governingEntry new k → (r : Judged)
+      (k : Key) {a : Found} → a ≡ governingEntry signer k → {b : Found} → b ≡ governingEntry new k → (r : TypeAnswer)
       → ((type : Key) → judgedContent signer new type r ≡ entry signer new a b type) → judgedContent signer new k r ≡ of-content-type k
   unfolding typeOutside
   type-governed k p q r h =
       h k
-      ∙ ap₂ (λ (x y : Found). entryOutside k (holding (entryOf signer) x) (holding (entryOf new) y)) p q
+      ∙ ap₂ (λ (x y : Found). entryOutside k (holding (rightsEntry signer) x) (holding (rightsEntry new) y)) p q
       ∙ sym (ap₂ (entryOutside k) (governing-entry signer k) (governing-entry new k))
 
   -- of the types that v lists
@@ -248,7 +231,7 @@ module _ (signer new : List ℕ) where
       unfolding pickedContent
       none-picked l = answer-end of-content-type Types v i (outer .stop) rest l ∙ listed-answer o
 
-      module _ (l : i < outer .stop) {e : Element} (q : e ≡ elementAt v i (outer .stop)) {t : Key} (w : t ≡ typeOf v e) {r : Judged}
+      module _ (l : i < outer .stop) {e : Element} (q : e ≡ elementAt v i (outer .stop)) {t : Key} (w : t ≡ typeOf v e) {r : TypeAnswer}
           (h : judgedContent signer new t r ≡ of-content-type t) where
         pub picked-here : {x : Excess} → r ≡ judged.Outside x → pickedContent signer new v (picked.Entry e x) ≡ findSome of-content-type (keys (constraintsRights v))
         unfolding judgedContent pickedContent keyOf
@@ -296,12 +279,12 @@ module _ (signer new : List ℕ) where
       ap (orElse (of-content-type signer new nobody))
       (find-append (of-content-type signer new) (keys (constraintsRights new)) (keys (constraintsRights signer)))
 
-  module _ {p : Found} (a : p ≡ anyEntry signer) {q : Found} (b : q ≡ anyEntry new) (r : Judged)
+  module _ {p : Found} (a : p ≡ anyEntry signer) {q : Found} (b : q ≡ anyEntry new) (r : TypeAnswer)
       (h : (type : Key) → judgedContent signer new type r ≡ entry signer new p q type) where
     at-nobody : judgedContent signer new nobody r ≡ of-content-type signer new nobody
     at-nobody =
         h nobody
-        ∙ ap₂ (λ (x y : Found). entryOutside nobody (holding (entryOf signer) x) (holding (entryOf new) y)) a b
+        ∙ ap₂ (λ (x y : Found). entryOutside nobody (holding (rightsEntry signer) x) (holding (rightsEntry new) y)) a b
         ∙ sym nobody-governed
 
     pub by-nobody : {x : Excess} → r ≡ judged.Outside x → {m : ℕ} → m ≡ fresh oid (listedTypes (constraintsRights signer) (constraintsRights new))
@@ -323,7 +306,7 @@ module _ (signer new : List ℕ) where
         unfolding contentOf judgedContent pickedContent orElse
         by-none g = rw (in-turn, ← at-nobody, e, ← h₁, e₁, ← h₂, g)
 
-  module _ {r : Answer} (h : contentOf signer new r ≡ given) where
+  module _ {r : RightsAnswer} (h : contentOf signer new r ≡ given) where
     pub said-outside : {l : Lister} {x : Excess} → r ≡ answer.Outside l x → false ≡ within (constraintsRights signer) (constraintsRights new)
     unfolding within contentOf
     said-outside q = rw (sym h ∙ ap (contentOf signer new) q, within)

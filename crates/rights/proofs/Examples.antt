@@ -5,48 +5,10 @@ use mathlib.Core.Path.{_≡_, refl}
 use Rattle.octets.specs.Lists.{anyOf}
 use Rattle.octets.specs.Octets.{same, member}
 use Rattle.rights.specs.Rights.{Rights, anyContentType, lookup, governing, nothing, Within}
-use Rattle.rights.specs.Decision.{
-  integer,
-  oid,
-  fresh,
-  freshFrom,
-  keys,
-  findSome,
-  unlisted,
-  valueOutside,
-  attributeOutside,
-  pairOutside,
-  roleOutside,
-  entryOutside,
-  typeOutside,
-  listedTypes,
-  unlistedType,
-  outside,
-  within,
-}
-use Rattle.rights.specs.Examples.{
-  P1-P10,
-  p1-signer,
-  p1-new,
-  p2-signer,
-  p2-new,
-  p3-signer,
-  p3-new,
-  p4-signer,
-  p4-new,
-  p5-signer,
-  p5-new,
-  p6-signer,
-  p6-new,
-  p7-signer,
-  p7-new,
-  p8-signer,
-  p8-new,
-  p9-signer,
-  p9-new,
-  p10-signer,
-  p10-new,
-}
+use Rattle.rights.specs.Decision.{integer, oid, fresh, freshFrom, keys, findSome, unlisted, valueOutside, attributeOutside, pairOutside, roleOutside}
+use Rattle.rights.specs.Decision.{entryOutside, typeOutside, listedTypes, unlistedType, outside, within}
+use Rattle.rights.specs.Examples.{P1-P10, p1-signer, p1-new, p2-signer, p2-new, p3-signer, p3-new, p4-signer, p4-new, p5-signer, p5-new, p6-signer}
+use Rattle.rights.specs.Examples.{p6-new, p7-signer, p7-new, p8-signer, p8-new, p9-signer, p9-new, p10-signer, p10-new}
 use Rattle.rights.proofs.Within.{within-iff, outside-iff, not-both}
 
 is-within : (signer new : Rights) → within signer new ≡ true → Within signer new

@@ -8,7 +8,7 @@ use mathlib.Core.Path.{_≡_, sym, ap, _∙_}
 use lib.ListN.{length, length-append, length-map}
 use lib.Dec.{eqb}
 use borrow.Author.Tests.{eqb-true, eqb-false}
-use Rattle.octets.specs.Lists.{keep}
+use Rattle.octets.specs.Lists.{filter}
 use Rattle.octets.specs.Octets.{same, member}
 use Rattle.octets.specs.Limits.{maxEntries, maxValues}
 use Rattle.octets.proofs.Lists.{by-test, same-refl, ≢→same, keep-member, keep-shorter}
@@ -28,9 +28,9 @@ module _ (key : ℕ → Key) (differ : (i j : ℕ) → key i ≡ key j → i ≡
       let here = h n (omega arith) (omega arith) in
       let others : Key → Bool = λ x. not (same x (key n)) in
       let less = keep-shorter others l (key n) here (ap not (same-refl (key n))) in
-      let kept : (i : ℕ) → suc n ≤ i → i < suc n + k → member (key i) (keep others l) ≡ true = λ i a b.
+      let kept : (i : ℕ) → suc n ≤ i → i < suc n + k → member (key i) (filter others l) ≡ true = λ i a b.
       keep-member others l (key i) (h i (omega arith) (omega arith)) (ap not (≢→same (key i) (key n) (λ e. let z = differ i n e in omega arith))) in
-      let rest = pigeonhole k (suc n) (keep others l) kept in
+      let rest = pigeonhole k (suc n) (filter others l) kept in
       omega arith
 
   from : (l : List Key) (k n : ℕ) → n + k ≡ length l → ((i : ℕ) → i < n → member (key i) l ≡ true) → Fresh key l (freshFrom key l k n)

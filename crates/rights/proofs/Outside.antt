@@ -8,20 +8,8 @@ use Rattle.octets.specs.Lists.{allOf}
 use Rattle.octets.specs.Octets.{member}
 use Rattle.octets.proofs.Lists.{by-test, both, allOf-weaken}
 use Rattle.rights.specs.Rights.{Key, Role, source, carrier, Content, Constraints, Entry, lookup, mayAct, allowed, meets, permits}
-use Rattle.rights.specs.Decision.{
-  integer,
-  fresh,
-  keys,
-  unlisted,
-  valueOutside,
-  attributeOutside,
-  pairOutside,
-  roleOutside,
-  pairOf,
-  noPair,
-  onePair,
-  entryOutside,
-}
+use Rattle.rights.specs.Decision.{integer, fresh, keys, unlisted, valueOutside, attributeOutside, pairOutside, roleOutside, pairOf, noPair, onePair}
+use Rattle.rights.specs.Decision.{entryOutside}
 use Rattle.rights.proofs.Fresh.{fresh-new, integer-differ}
 use Rattle.rights.proofs.Lookup.{orElse-none, orElse-some, findSome-none, findSome-some, lookup-unlisted}
 

@@ -8,7 +8,7 @@ use mathlib.Core.Path.{_≡_, refl, sym, ap, ap₂, _∙_}
 use Rattle.octets.specs.Octets.{same, member}
 use Rattle.octets.proofs.Lists.{by-test, member-append}
 use Rattle.der.specs.declared.Element.{Element}
-use Rattle.der.specs.declared.Compared.the-variants.{Types, Octets}
+use Rattle.der.specs.declared.Compared.the-variants.{Types, Encodings}
 use Rattle.der.specs.declared.Found.{Found}
 use Rattle.der.specs.declared.Found.the-variants.{At, Nowhere}
 use Rattle.der.specs.Element.{root, inside, field}
@@ -16,7 +16,7 @@ use Rattle.der.specs.Keys.{typeOf, keyOf, keysIn, firstWith}
 use Rattle.rights.specs.Rights.{Key, Rights, anyContentType, lookup, governing}
 use Rattle.rights.specs.Decision.{keys, listedTypes}
 use Rattle.rights.specs.Constraints.{attrConstraint, contentTypeConstraint, constraintsRights}
-use Rattle.rights.specs.Places.{constraintFor, valuesUnder, entryFor, orThen, anyEntry, governingEntry, entryOf, holding}
+use Rattle.rights.specs.Places.{constraintFor, valuesUnder, entryFor, orThen, anyEntry, governingEntry, rightsEntry, holding}
 
 -- what is made of elements by their types: the first of a type holds what stands under the type, and the types are the keys
 module _ {A : Type 0} (v : List ℕ) (f : Element → Key × A) (typed : (e : Element) → f e .0 ≡ typeOf v e) where
@@ -39,7 +39,7 @@ pub listed-types : (v : List ℕ) → keys (constraintsRights v) ≡ keysIn Type
 unfolding constraintsRights contentTypeConstraint
 listed-types v = keys-typed v (contentTypeConstraint v) (λ e. refl) (inside v (root v))
 
-pub constrained-types : (v : List ℕ) (entry : Element) → keys (entryOf v entry .constraints) ≡ keysIn Types v (field 0x30 v entry)
+pub constrained-types : (v : List ℕ) (entry : Element) → keys (rightsEntry v entry .constraints) ≡ keysIn Types v (field 0x30 v entry)
 unfolding contentTypeConstraint attrConstraint
 constrained-types v entry = keys-typed v (attrConstraint v) (λ e. refl) (inside v (field 0x30 v entry))
 
@@ -48,8 +48,8 @@ module _ (v : List ℕ) (k : Key) {list : Element} where
   pub constraint-found : (entry : Element) → list ≡ field 0x30 v entry → {f : Found} → f ≡ firstWith Types v k (inside v list) → f ≡ constraintFor v entry k
   constraint-found entry q h = h ∙ ap (λ (o : Element). firstWith Types v k (inside v o)) q
 
-  pub value-listed : (constraint : Element) → list ≡ field 0x31 v constraint → {b : Bool} → b ≡ member k (keysIn Octets v list) → b ≡ member k (valuesUnder v constraint)
-  value-listed constraint q h = h ∙ ap (λ (o : Element). member k (keysIn Octets v o)) q
+  pub value-listed : (constraint : Element) → list ≡ field 0x31 v constraint → {b : Bool} → b ≡ member k (keysIn Encodings v list) → b ≡ member k (valuesUnder v constraint)
+  value-listed constraint q h = h ∙ ap (λ (o : Element). member k (keysIn Encodings v o)) q
 
   module _ (q : list ≡ root v) where
     pub entry-found : {f : Found} → f ≡ firstWith Types v k (inside v list) → f ≡ entryFor v k
@@ -59,25 +59,25 @@ module _ (v : List ℕ) (k : Key) {list : Element} where
     type-listed h = h ∙ ap (λ (o : Element). member k (keysIn Types v o)) q ∙ ap (member k) (sym (listed-types v))
 
 -- the values that stand under an attribute type in an entry
-pub values-under : (v : List ℕ) (entry : Element) (k : Key) → lookup k (entryOf v entry .constraints) ≡ holding (valuesUnder v) (constraintFor v entry k)
+pub values-under : (v : List ℕ) (entry : Element) (k : Key) → lookup k (rightsEntry v entry .constraints) ≡ holding (valuesUnder v) (constraintFor v entry k)
 unfolding contentTypeConstraint attrConstraint keyOf
 values-under v entry k = first-lookup v (attrConstraint v) (λ e. refl) k (inside v (field 0x30 v entry))
 
 -- the entry that governs a type
 
-entry-under : (v : List ℕ) (k : Key) → lookup k (constraintsRights v) ≡ holding (entryOf v) (entryFor v k)
+entry-under : (v : List ℕ) (k : Key) → lookup k (constraintsRights v) ≡ holding (rightsEntry v) (entryFor v k)
 unfolding constraintsRights contentTypeConstraint
 entry-under v k = first-lookup v (contentTypeConstraint v) (λ e. refl) k (inside v (root v))
 
-pub any-entry : (v : List ℕ) → lookup anyContentType (constraintsRights v) ≡ holding (entryOf v) (anyEntry v)
+pub any-entry : (v : List ℕ) → lookup anyContentType (constraintsRights v) ≡ holding (rightsEntry v) (anyEntry v)
 unfolding anyEntry
 any-entry v = entry-under v anyContentType
 
-pub governing-entry : (v : List ℕ) (k : Key) → governing (constraintsRights v) k ≡ holding (entryOf v) (governingEntry v k)
+pub governing-entry : (v : List ℕ) (k : Key) → governing (constraintsRights v) k ≡ holding (rightsEntry v) (governingEntry v k)
 unfolding governing governingEntry holding orThen orElse
 governing-entry v k = ap₂ orElse (entry-under v k) (any-entry v) ∙ sym (either (entryFor v k) (anyEntry v))
   where
-    either : (a b : Found) → holding (entryOf v) (orThen a b) ≡ orElse (holding (entryOf v) a) (holding (entryOf v) b)
+    either : (a b : Found) → holding (rightsEntry v) (orThen a b) ≡ orElse (holding (rightsEntry v) a) (holding (rightsEntry v) b)
     either (At e) b = refl
     either Nowhere b = refl
 

@@ -8,11 +8,11 @@ use lib.ListN.{length}
 use borrow.Author.Tests.{lt-ltb}
 use Rattle.octets.specs.Limits.{maxDepth}
 use Rattle.octets.specs.Lists.{allOf}
-use Rattle.octets.specs.Octets.{Octets, part}
+use Rattle.octets.specs.Octets.{Octets, slice}
 use Rattle.octets.proofs.Lists.{by-test, both}
 use Rattle.der.specs.declared.Element.{Element}
 use Rattle.der.specs.declared.Fit.the-variants.{Fits}
-use Rattle.der.specs.Element.{root, whole, contents, inside, field}
+use Rattle.der.specs.Element.{root, encoding, contents, inside, field}
 use Rattle.der.specs.Fit.{kept}
 use Rattle.der.specs.Contents.{contentsOk}
 use Rattle.der.specs.Check.{der, spans}
@@ -22,9 +22,9 @@ use Rattle.syntax.specs.Asn.{AttrConstraint, ContentTypeConstraint, CMSContentC
 use Rattle.syntax.proofs.Each.{Every, every-weaken, every-both, every-map}
 use Rattle.syntax.proofs.Match.{one-fits, obeys-fits}
 use Rattle.syntax.proofs.Window.{Member, members, tagged-member}
-use Rattle.syntax.proofs.Depth.{der-good, inside-der, contents-der, spans-fits}
+use Rattle.syntax.proofs.Depth.{der-valid, inside-der, contents-der, spans-fits}
 use Rattle.syntax.proofs.Moved.{spans-alone}
-use Rattle.syntax.proofs.Rules.{octets-part}
+use Rattle.syntax.proofs.Rules.{octets-slice}
 use Rattle.syntax.proofs.Fields.{Found, chosen, placed, each-found, fieldIn, lacks, onlyField}
 use Rattle.rights.specs.Constraints.{attrConstraint, contentTypeConstraint, constraintsRights}
 use Rattle.rights.specs.Valid.{isOctets, isType, isValue}
@@ -36,25 +36,25 @@ all-octets [] o = refl
 all-octets (x ∷ k) o = both (lt-ltb x 256 (o zero)) (all-octets k (λ i. o (suc i)))
 
 module _ (v : List ℕ) (o : Octets v) where
-  part-octets : (a e : ℕ) → isOctets (part v a e) ≡ true
-  part-octets a e = all-octets (part v a e) (octets-part v a e o)
+  slice-octets : (a e : ℕ) → isOctets (slice v a e) ≡ true
+  slice-octets a e = all-octets (slice v a e) (octets-slice v a e o)
 
   -- an OID among the fields of an element
-  valid-type : (d : ℕ) (e : Element) → Every (λ m. der (suc d) v m ≡ Fits) (inside v e) → field 0x06 v e .good ≡ true → field 0x06 v e .tag ≡ 0x06
+  valid-type : (d : ℕ) (e : Element) → Every (λ m. der (suc d) v m ≡ Fits) (inside v e) → field 0x06 v e .valid ≡ true → field 0x06 v e .tag ≡ 0x06
       → isType (contents v (field 0x06 v e)) ≡ true
   unfolding isType contentsOk
   valid-type d e h g t =
       let x = field 0x06 v e in
       let k = tagged-member (λ m. der (suc d) v m ≡ Fits) 0x06 (inside v e) h g in
-      both (part-octets (x .start) (x .stop)) (rw t at (contents-der d v x k (rw t refl)))
+      both (slice-octets (x .start) (x .stop)) (rw t at (contents-der d v x k (rw t refl)))
 
   -- a listed value
-  valid-value : (s : Element) → Every (λ m. der 11 v m ≡ Fits) (inside v s) → Every (λ w. isValue w ≡ true) (map (whole v) (inside v s))
+  valid-value : (s : Element) → Every (λ m. der 11 v m ≡ Fits) (inside v s) → Every (λ w. isValue w ≡ true) (map (encoding v) (inside v s))
   unfolding isValue
   valid-value s h =
-      every-map (whole v) (λ w. isValue w ≡ true) (inside v s)
-      (every-weaken (λ m. Member v (s .start) (s .stop) m × (der 11 v m ≡ Fits)) (λ m. isValue (whole v m) ≡ true)
-      (λ m k. both (part-octets (m .at) (m .stop)) (ap kept (spans-alone v m (k .0 .own (der-good 11 v m (k .1))) 11 (k .1))))
+      every-map (encoding v) (λ w. isValue w ≡ true) (inside v s)
+      (every-weaken (λ m. Member v (s .start) (s .stop) m × (der 11 v m ≡ Fits)) (λ m. isValue (encoding v m) ≡ true)
+      (λ m k. both (slice-octets (m .at) (m .stop)) (ap kept (spans-alone v m (k .0 .own (der-valid 11 v m (k .1))) 11 (k .1))))
       (inside v s)
       (every-both (Member v (s .start) (s .stop)) (λ m. der 11 v m ≡ Fits) (inside v s) (members v (s .start) (s .stop)) h))
 
@@ -64,8 +64,8 @@ module _ (v : List ℕ) (o : Octets v) where
       let m = inside-der 12 v a h (rw (f .tag) refl) in
       let t = placed 0x06 v AttrConstraint (a .start) (a .stop) (a .at) (f .fits) .0 in
       let s = placed 0x31 v AttrConstraint (a .start) (a .stop) (a .at) (f .fits) .0 in (
-        valid-type 11 a m (t .own .good) (t .tag),
-        valid-value (field 0x31 v a) (inside-der 11 v (field 0x31 v a) (tagged-member (λ m. der 12 v m ≡ Fits) 0x31 (inside v a) m (s .own .good)) (rw (s .tag) refl)),
+        valid-type 11 a m (t .own .valid) (t .tag),
+        valid-value (field 0x31 v a) (inside-der 11 v (field 0x31 v a) (tagged-member (λ m. der 12 v m ≡ Fits) 0x31 (inside v a) m (s .own .valid)) (rw (s .tag) refl)),
       )
 
   valid-entry : (at stop : ℕ) (e : Element) → Found 0x30 ContentTypeConstraint v at stop e → der 15 v e ≡ Fits → ValidEntry (contentTypeConstraint v e)
@@ -75,9 +75,9 @@ module _ (v : List ℕ) (o : Octets v) where
       let t = placed 0x06 v ContentTypeConstraint (e .start) (e .stop) (e .at) (f .fits) .0 in
       let p = placed 0x30 v ContentTypeConstraint (e .start) (e .stop) (e .at) (f .fits) in
       let l = field 0x30 v e in (
-        valid-type 13 e m (t .own .good) (t .tag),
+        valid-type 13 e m (t .own .valid) (t .tag),
         every-map (attrConstraint v) ValidAttribute (inside v l)
-            (by-test (l .good)
+            (by-test (l .valid)
             (λ g.
             let q = p .0 g in
             every-weaken (λ a. Found 0x30 AttrConstraint v (l .start) (l .stop) a × (der 13 v a ≡ Fits)) (λ a. ValidAttribute (attrConstraint v a))
@@ -94,7 +94,7 @@ module _ (v : List ℕ) (o : Octets v) where
   valid-keys s f =
       let e = root v in
       let one = one-fits v 0 (length v) 0 refl _ _ f in
-      let c = chosen v 0 (length v) 0 {e = e} refl (one .good) 0x30 _ (one .alone) in
+      let c = chosen v 0 (length v) 0 {e = e} refl (one .valid) 0x30 _ (one .alone) in
       every-map (contentTypeConstraint v) ValidEntry (inside v e)
       (every-weaken (λ m. Found 0x30 ContentTypeConstraint v (e .start) (e .stop) m × (der 15 v m ≡ Fits)) (λ m. ValidEntry (contentTypeConstraint v m))
       (λ m k. valid-entry (e .start) (e .stop) m (k .0) (k .1))

@@ -7,7 +7,7 @@ use mathlib.Core.Path.{_≡_, refl, sym, ap, _∙_}
 use lib.ListN.{getD, drop}
 use borrow.Author.Tests.{not-true, not-false}
 use Rattle.octets.specs.Lists.{anyOf}
-use Rattle.octets.specs.Octets.{Octets, part, same, member}
+use Rattle.octets.specs.Octets.{Octets, slice, same, member}
 use Rattle.octets.proofs.Lists.{≢→same}
 use Rattle.octets.proofs.Number.{octets-take, octets-drop}
 use Rattle.der.specs.declared.Element.{Element}
@@ -25,16 +25,16 @@ use Rattle.rights.proofs.Places.{listed-types, listed-by-signer}
 -- an octet is below 256, so no key with 256 in it is listed
 
 module _ (v : List ℕ) (o : Octets v) (k : Key) (i : ℕ) (h : getD k i 0 ≡ 256) where
-  not-octets : (a e : ℕ) → same k (part v a e) ≡ false
+  not-octets : (a e : ℕ) → same k (slice v a e) ≡ false
   not-octets a e =
-      ≢→same k (part v a e)
+      ≢→same k (slice v a e)
       (λ q. omega (arith, octets-take (drop a v) (e - a) (octets-drop v a o) i, sym (ap (λ (s : List ℕ). getD s i 0) q) ∙ h))
 
   not-key : (c : Compared) (e : Element) → same k (keyOf c v e) ≡ false
   unfolding keyOf
   not-key by.Types e = let f = field 0x06 v e in not-octets (f .start) (f .stop)
   not-key by.Contents e = not-octets (e .start) (e .stop)
-  not-key by.Octets e = not-octets (e .at) (e .stop)
+  not-key by.Encodings e = not-octets (e .at) (e .stop)
 
   no-key : (c : Compared) (l : List Element) → member k (map (keyOf c v) l) ≡ false
   unfolding member anyOf
@@ -53,7 +53,7 @@ module _ (l : List Key) (n : ℕ) (least : n ≤ fresh integer l) where
 pub value-last : (v : List ℕ) → Octets v → (a : Element) (n : ℕ) → n ≤ fresh integer (valuesUnder v a) → n ≡ 256 → n ≡ fresh integer (valuesUnder v a)
 unfolding integer
 value-last v o a n least h =
-    fresh-found integer integer-differ (valuesUnder v a) n least (no-key v o (integer n) 2 h by.Octets (inside v (field 0x31 v a)))
+    fresh-found integer integer-differ (valuesUnder v a) n least (no-key v o (integer n) 2 h by.Encodings (inside v (field 0x31 v a)))
 
 module _ (l : List Key) (n : ℕ) (least : n ≤ fresh oid l) where
   pub type-more : {r : Bool} → r ≡ member (oid n) l → not r ≡ false → n + 1 ≤ fresh oid l

@@ -6,17 +6,17 @@ use mathlib.Core.Logic.{_↔_}
 use mathlib.Core.Path.{_≡_, refl, sym, ap, _∙_}
 use Rattle.rights.specs.declared.Excess.{Excess}
 use Rattle.rights.specs.declared.Lister.{Lister}
-use Rattle.rights.specs.declared.Answer.{Answer}
-use Rattle.rights.specs.declared.Answer.the-variants as answer
+use Rattle.rights.specs.declared.RightsAnswer.{RightsAnswer}
+use Rattle.rights.specs.declared.RightsAnswer.the-variants as answer
 use Rattle.rights.specs.Rights.{Content, authorises, Within}
 use Rattle.rights.specs.Decision.{outside}
 use Rattle.rights.specs.Constraints.{constraintsRights}
-use Rattle.rights.specs.Answer.{excessContent, listedType, contentOf}
+use Rattle.rights.specs.RightsAnswer.{excessContent, listedType, contentOf}
 use Rattle.rights.proofs.Within.{outside-none, outside-some, not-both}
 
 module _ (signer new : List ℕ) where
   -- the promise of `content_outside`
-  abbrev Promised : Answer → Type 0
+  abbrev Promised : RightsAnswer → Type 0
   Promised r = contentOf signer new r ≡ outside (constraintsRights signer) (constraintsRights new)
 
   abbrev contentGiven : Lister → Excess → Content
@@ -28,7 +28,7 @@ module _ (signer new : List ℕ) where
   unfolding contentOf
   given-outside l x h = outside-some (constraintsRights signer) (constraintsRights new) (sym h)
 
-  pub says-within : (r : Answer) → Promised r → (r ≡ answer.Within) ↔ Within (constraintsRights signer) (constraintsRights new)
+  pub says-within : (r : RightsAnswer) → Promised r → (r ≡ answer.Within) ↔ Within (constraintsRights signer) (constraintsRights new)
   unfolding contentOf
   says-within answer.Within h = (λ e. outside-none (constraintsRights signer) (constraintsRights new) (sym h), λ w. refl)
   says-within (answer.Outside l x) h = (

@@ -6,26 +6,8 @@ use mathlib.Core.Option.{Option, none, some, orElse}
 use mathlib.Core.Path.{_≡_, refl, sym, _∙_}
 use Rattle.octets.specs.Octets.{same, member}
 use Rattle.octets.proofs.Lists.{by-test, both, same-refl, allOf-always, member-head, member-tail}
-use Rattle.rights.specs.Rights.{
-  Role,
-  source,
-  carrier,
-  Content,
-  Rights,
-  anyContentType,
-  lookup,
-  governing,
-  mayAct,
-  allowed,
-  meets,
-  permits,
-  authorises,
-  free,
-  everything,
-  nothing,
-  Within,
-  Outside,
-}
+use Rattle.rights.specs.Rights.{Role, source, carrier, Content, Rights, anyContentType, lookup, governing, mayAct, allowed, meets, permits, authorises}
+use Rattle.rights.specs.Rights.{free, everything, nothing, Within, Outside}
 use Rattle.rights.specs.Decision.{typeOutside, listedTypes, unlistedType, outside, within}
 use Rattle.rights.proofs.Lookup.{findSome-none, findSome-some}
 use Rattle.rights.proofs.Types.{type-some, type-none, same-governing}

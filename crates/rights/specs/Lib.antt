@@ -4,5 +4,5 @@ pub mod Examples
 pub mod Constraints
 pub mod Attributes
 pub mod Places
-pub mod Answer
+pub mod RightsAnswer
 pub mod Valid

@@ -5,37 +5,14 @@ ghost use mathlib.Core.Bool.{not, _&&_};
 ghost use mathlib.Core.Option.{Option·map};
 ghost use Rattle.octets.specs.Lists.{allOf};
 ghost use Rattle.octets.specs.Octets.{member};
-ghost use Rattle.der.specs.Element.{root, whole as wholeOf, inside};
+ghost use Rattle.der.specs.Element.{root, encoding as encodingOf, inside};
 ghost use Rattle.rights.specs.Rights.{Key, source, carrier, authorises as authorisesOf};
-ghost use Rattle.rights.specs.Decision.{
-  oid,
-  integer,
-  fresh,
-  keys,
-  findSome,
-  unlisted,
-  attributeOutside,
-  pairOutside,
-  onePair,
-  entryOutside,
-  typeOutside,
-  listedTypes,
-  outside as outsideOf,
-  within as withinOf,
-};
+ghost use Rattle.rights.specs.Decision.{oid, integer, fresh, keys, findSome, unlisted, attributeOutside, pairOutside, onePair, entryOutside};
+ghost use Rattle.rights.specs.Decision.{typeOutside, listedTypes, outside as outsideOf, within as withinOf};
 ghost use Rattle.rights.specs.Constraints.{constraintsRights};
-ghost use Rattle.rights.specs.Attributes.{attrValue, weighed, pairs};
-ghost use Rattle.rights.specs.Places.{
-  constraintFor,
-  valuesUnder,
-  entryFor,
-  anyEntry,
-  governingEntry,
-  entryOf,
-  holding,
-  attributeMeets,
-};
-ghost use Rattle.rights.specs.Answer.{judgedContent, pickedContent, contentOf};
+ghost use Rattle.rights.specs.Attributes.{attrValue, isOtherAttribute, pairs};
+ghost use Rattle.rights.specs.Places.{constraintFor, valuesUnder, entryFor, anyEntry, governingEntry, rightsEntry, holding, attributeMeets};
+ghost use Rattle.rights.specs.RightsAnswer.{judgedContent, pickedContent, contentOf};
 use der::Compared;
 use der::Element;
 use der::Found;
@@ -53,7 +30,7 @@ pub enum Excess {
 }
 
 // The contents of one type.
-enum Judged {
+enum TypeAnswer {
     Within,
     Outside(Excess),
 }
@@ -72,7 +49,7 @@ pub enum Lister {
 }
 
 // Whether the new anchor is within the signer; if not, a content that lies outside, by its parts.
-pub enum Answer {
+pub enum RightsAnswer {
     Within,
     Outside(Lister, Excess),
 }
@@ -126,17 +103,17 @@ fn governing(v: &[u8], key: &[u8]) -> Found
 
 // Whether an entry is canSource.
 fn is_source(v: &[u8], e: Element) -> bool
-    ensures { λ r. ⌜ r ≡ entryOf (now (v .entry)) e .canSource ⌝ }
+    ensures { λ r. ⌜ r ≡ rightsEntry (now (v .entry)) e .canSource ⌝ }
 {
-    let f = der::field(v, e, 0x0A);
-    !f.good
+    let f = der::field(v, e, der::ENUMERATED);
+    !f.valid
 }
 
 // The constraint of an attribute type in an entry.
 fn constraint_for(v: &[u8], entry: Element, key: &[u8]) -> Found
     ensures { λ r. ⌜ r ≡ constraintFor (now (v .entry)) entry (now (key .entry)) ⌝ }
 {
-    let list = der::field(v, entry, 0x30);
+    let list = der::field(v, entry, der::SEQUENCE);
     der::first_with(v, list.start, list.stop, Compared::Types, key)
 }
 
@@ -144,13 +121,13 @@ fn constraint_for(v: &[u8], entry: Element, key: &[u8]) -> Found
 fn lists(v: &[u8], constraint: Element, value: &[u8]) -> bool
     ensures { λ r. ⌜ r ≡ member (now (value .entry)) (valuesUnder (now (v .entry)) constraint) ⌝ }
 {
-    let values = der::field(v, constraint, 0x31);
-    der::occurs(v, values.start, values.stop, Compared::Octets, value)
+    let values = der::field(v, constraint, der::SET);
+    der::occurs(v, values.start, values.stop, Compared::Encodings, value)
 }
 
 // A signed attribute is weighed unless it is content-type or message-digest.
-fn is_weighed(s: &[u8], e: Element) -> bool
-    ensures { λ r. ⌜ r ≡ weighed (now (s .entry)) e ⌝ }
+fn is_other_attribute(s: &[u8], e: Element) -> bool
+    ensures { λ r. ⌜ r ≡ isOtherAttribute (now (s .entry)) e ⌝ }
 {
     let a = syntax::ID_CONTENT_TYPE;
     if octets::equal(der::type_of(s, e), &a) {
@@ -162,17 +139,17 @@ fn is_weighed(s: &[u8], e: Element) -> bool
 
 // The first value of a signed attribute.
 fn value_in(s: &[u8], e: Element) -> &[u8]
-    ensures { λ r. ⌜ now r ≡ wholeOf (now (s .entry)) (attrValue (now (s .entry)) e) ⌝ }
+    ensures { λ r. ⌜ now r ≡ encodingOf (now (s .entry)) (attrValue (now (s .entry)) e) ⌝ }
 {
-    let values = der::field(s, e, 0x31);
-    der::whole(s, der::element_at(s, values.start, values.stop))
+    let values = der::field(s, e, der::SET);
+    der::encoding(s, der::element_at(s, values.start, values.stop))
 }
 
 // A signed attribute of s has a listed value, where the entry of v constrains its type.
 fn attribute_meets(v: &[u8], entry: Element, s: &[u8], e: Element) -> bool
-    ensures { λ r. ⌜ r ≡ attributeMeets (entryOf (now (v .entry)) entry) (now (s .entry)) e ⌝ }
+    ensures { λ r. ⌜ r ≡ attributeMeets (rightsEntry (now (v .entry)) entry) (now (s .entry)) e ⌝ }
 {
-    if !is_weighed(s, e) {
+    if !is_other_attribute(s, e) {
         return true;
     }
     let Found::At(a) = constraint_for(v, entry, der::type_of(s, e)) else {
@@ -184,7 +161,7 @@ fn attribute_meets(v: &[u8], entry: Element, s: &[u8], e: Element) -> bool
 // Each of the signed attributes of s has.
 fn attributes_meet(v: &[u8], entry: Element, s: &[u8], attributes: Element) -> bool
     ensures { λ r.
-        ⌜ r ≡ allOf (attributeMeets (entryOf (now (v .entry)) entry) (now (s .entry))) (inside (now (s .entry)) attributes) ⌝ }
+        ⌜ r ≡ allOf (attributeMeets (rightsEntry (now (v .entry)) entry) (now (s .entry))) (inside (now (s .entry)) attributes) ⌝ }
 {
     let stop = attributes.stop;
     let mut i = attributes.start;
@@ -230,16 +207,16 @@ pub fn carries(v: &[u8], key: &[u8], s: &[u8], attributes: Element) -> bool
 // The first value that the new anchor's attribute constraint b lists and the signer's a does not.
 fn unlisted_value(signer: &[u8], a: Element, new: &[u8], b: Element) -> Found
     ensures { λ r.
-        ⌜ holding (wholeOf (now (new .entry))) r ≡ findSome
+        ⌜ holding (encodingOf (now (new .entry))) r ≡ findSome
         (unlisted (valuesUnder (now (signer .entry)) a))
         (valuesUnder (now (new .entry)) b) ⌝ }
 {
-    let values = der::field(new, b, 0x31);
+    let values = der::field(new, b, der::SET);
     let stop = values.stop;
     let mut i = values.start;
     while i < stop {
         let e = der::element_at(new, i, stop);
-        if !lists(signer, a, der::whole(new, e)) {
+        if !lists(signer, a, der::encoding(new, e)) {
             return Found::At(e);
         }
         i = der::next(e, stop);
@@ -299,54 +276,60 @@ fn fresh_type(signer: &[u8], new: &[u8]) -> usize
 }
 
 // A value of one attribute type that the new anchor's entry n allows and the signer's entry s does not.
-fn attribute_outside(signer: &[u8], s: Element, new: &[u8], n: Element, key: &[u8]) -> Judged
+fn attribute_outside(signer: &[u8], s: Element, new: &[u8], n: Element, key: &[u8]) -> TypeAnswer
     ensures { λ r.
         ⌜ ((type : Key)
         → judgedContent (now (signer .entry)) (now (new .entry)) type r
         ≡ Option·map
         (onePair type)
         (attributeOutside
-        (entryOf (now (signer .entry)) s .constraints)
-        (entryOf (now (new .entry)) n .constraints)
+        (rightsEntry (now (signer .entry)) s .constraints)
+        (rightsEntry (now (new .entry)) n .constraints)
         (now (key .entry)))) ⌝ }
 {
     let Found::At(a) = constraint_for(signer, s, key) else {
-        return Judged::Within;
+        return TypeAnswer::Within;
     };
     let Found::At(b) = constraint_for(new, n, key) else {
-        return Judged::Outside(Excess::Unlisted(a, fresh_value(signer, a)));
+        return TypeAnswer::Outside(Excess::Unlisted(a, fresh_value(signer, a)));
     };
     let Found::At(w) = unlisted_value(signer, a, new, b) else {
-        return Judged::Within;
+        return TypeAnswer::Within;
     };
-    Judged::Outside(Excess::Listed(a, w))
+    TypeAnswer::Outside(Excess::Listed(a, w))
 }
 
 // Such a value of any attribute type that the signer's entry constrains.
-fn pair_outside(signer: &[u8], s: Element, new: &[u8], n: Element) -> Judged
+fn pair_outside(signer: &[u8], s: Element, new: &[u8], n: Element) -> TypeAnswer
     ensures { λ r.
         ⌜ ((type : Key)
         → judgedContent (now (signer .entry)) (now (new .entry)) type r
         ≡ Option·map
         (onePair type)
-        (pairOutside (entryOf (now (signer .entry)) s .constraints) (entryOf (now (new .entry)) n .constraints))) ⌝ }
+        (pairOutside (rightsEntry (now (signer .entry)) s .constraints) (rightsEntry (now (new .entry)) n .constraints))) ⌝ }
 {
-    let outer = der::field(signer, s, 0x30);
+    let outer = der::field(signer, s, der::SEQUENCE);
     let stop = outer.stop;
     let mut i = outer.start;
     while i < stop {
         let e = der::element_at(signer, i, stop);
-        if let Judged::Outside(x) = attribute_outside(signer, s, new, n, der::type_of(signer, e)) {
-            return Judged::Outside(x);
+        if let TypeAnswer::Outside(x) = attribute_outside(
+            signer,
+            s,
+            new,
+            n,
+            der::type_of(signer, e),
+        ) {
+            return TypeAnswer::Outside(x);
         }
         i = der::next(e, stop);
     }
-    Judged::Within
+    TypeAnswer::Within
 }
 
 // The new anchor's entry n may source and the signer's entry s may not.
 fn only_new_sources(signer: &[u8], s: Element, new: &[u8], n: Element) -> bool
-    ensures { λ r. ⌜ r ≡ entryOf (now (new .entry)) n .canSource && not (entryOf (now (signer .entry)) s .canSource) ⌝ }
+    ensures { λ r. ⌜ r ≡ rightsEntry (now (new .entry)) n .canSource && not (rightsEntry (now (signer .entry)) s .canSource) ⌝ }
 {
     if !is_source(new, n) {
         return false;
@@ -355,26 +338,26 @@ fn only_new_sources(signer: &[u8], s: Element, new: &[u8], n: Element) -> bool
 }
 
 // A content of one type that lies outside, by the entries that govern it.
-fn entry_outside(signer: &[u8], a: Found, new: &[u8], b: Found) -> Judged
+fn entry_outside(signer: &[u8], a: Found, new: &[u8], b: Found) -> TypeAnswer
     ensures { λ r.
         ⌜ ((type : Key)
         → judgedContent (now (signer .entry)) (now (new .entry)) type r
-        ≡ entryOutside type (holding (entryOf (now (signer .entry))) a) (holding (entryOf (now (new .entry))) b)) ⌝ }
+        ≡ entryOutside type (holding (rightsEntry (now (signer .entry))) a) (holding (rightsEntry (now (new .entry))) b)) ⌝ }
 {
     let Found::At(n) = b else {
-        return Judged::Within;
+        return TypeAnswer::Within;
     };
     let Found::At(s) = a else {
-        return Judged::Outside(Excess::Carried);
+        return TypeAnswer::Outside(Excess::Carried);
     };
     if only_new_sources(signer, s, new, n) {
-        return Judged::Outside(Excess::Sourced);
+        return TypeAnswer::Outside(Excess::Sourced);
     }
     pair_outside(signer, s, new, n)
 }
 
 // The same by the type.
-fn type_outside(signer: &[u8], new: &[u8], key: &[u8]) -> Judged
+fn type_outside(signer: &[u8], new: &[u8], key: &[u8]) -> TypeAnswer
     ensures { λ r.
         ⌜ judgedContent (now (signer .entry)) (now (new .entry)) (now (key .entry)) r ≡ typeOutside
         (constraintsRights (now (signer .entry)))
@@ -396,7 +379,7 @@ fn among(signer: &[u8], new: &[u8], v: &[u8]) -> Picked
     let mut i = outer.start;
     while i < stop {
         let e = der::element_at(v, i, stop);
-        if let Judged::Outside(x) = type_outside(signer, new, der::type_of(v, e)) {
+        if let TypeAnswer::Outside(x) = type_outside(signer, new, der::type_of(v, e)) {
             return Picked::Entry(e, x);
         }
         i = der::next(e, stop);
@@ -406,29 +389,29 @@ fn among(signer: &[u8], new: &[u8], v: &[u8]) -> Picked
 
 // 01: the new anchor is within the signer; if not, a content that it authorises and the signer does not. A type that neither lists comes first, then those
 // that the new anchor lists, then the signer's.
-fn content_outside(signer: &[u8], new: &[u8]) -> Answer
+fn content_outside(signer: &[u8], new: &[u8]) -> RightsAnswer
     ensures { λ r.
         ⌜ contentOf (now (signer .entry)) (now (new .entry)) r ≡ outsideOf
         (constraintsRights (now (signer .entry)))
         (constraintsRights (now (new .entry))) ⌝ }
 {
-    if let Judged::Outside(x) = entry_outside(signer, any_entry(signer), new, any_entry(new)) {
-        return Answer::Outside(Lister::Nobody(fresh_type(signer, new)), x);
+    if let TypeAnswer::Outside(x) = entry_outside(signer, any_entry(signer), new, any_entry(new)) {
+        return RightsAnswer::Outside(Lister::Nobody(fresh_type(signer, new)), x);
     }
     if let Picked::Entry(e, x) = among(signer, new, new) {
-        return Answer::Outside(Lister::New(e), x);
+        return RightsAnswer::Outside(Lister::New(e), x);
     }
     if let Picked::Entry(e, x) = among(signer, new, signer) {
-        return Answer::Outside(Lister::Signer(e), x);
+        return RightsAnswer::Outside(Lister::Signer(e), x);
     }
-    Answer::Within
+    RightsAnswer::Within
 }
 
 // 01: the new anchor is within the signer.
 pub fn is_within(signer: &[u8], new: &[u8]) -> bool
     ensures { λ r. ⌜ r ≡ withinOf (constraintsRights (now (signer .entry))) (constraintsRights (now (new .entry))) ⌝ }
 {
-    if let Answer::Outside(_, _) = content_outside(signer, new) {
+    if let RightsAnswer::Outside(_, _) = content_outside(signer, new) {
         return false;
     }
     true

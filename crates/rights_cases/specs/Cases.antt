@@ -21,6 +21,6 @@ roleOf role = elim (eqb role 1) [ true ↦ carrier | false ↦ source ]
 unfoldable pub contentIn : ℕ → List ℕ → List ℕ → Content
 contentIn role type attributes = record { type = type; role = roleOf role; attributes = pairs attributes (root attributes) }
 
--- where the octets behind a 2-octet length at a place end
+-- where the octets after a 2-octet length at a place end
 abbrev pub frameEnd : List ℕ → ℕ → ℕ
 frameEnd s p = min (p + 2 + number (take 2 (drop p s))) (length s)

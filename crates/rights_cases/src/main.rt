@@ -60,8 +60,8 @@ fn within_case(s: &[u8], p: usize) -> usize
     let b = frame_end(s, a);
     if is_within(
         s[p + 1],
-        octets::part(s, p + 4, a),
-        octets::part(s, a + 2, b),
+        octets::slice(s, p + 4, a),
+        octets::slice(s, a + 2, b),
     ) {
         io::write_all(STDOUT_FILENO, b"within\n");
     } else {
@@ -78,13 +78,13 @@ fn authorised_case(s: &[u8], p: usize) -> usize
     let a = frame_end(s, p + 3);
     let b = frame_end(s, a);
     let e = frame_end(s, b);
-    let t = octets::part(s, p + 5, a);
+    let t = octets::slice(s, p + 5, a);
     if is_authorised(
         s[p + 1],
         s[p + 2],
         t,
-        octets::part(s, a + 2, b),
-        octets::part(s, b + 2, e),
+        octets::slice(s, a + 2, b),
+        octets::slice(s, b + 2, e),
     ) {
         io::write_all(STDOUT_FILENO, b"authorised\n");
     } else {

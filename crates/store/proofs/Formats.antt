@@ -8,14 +8,14 @@ use mathlib.Core.Path.{_≡_, refl, sym, ap, _∙_}
 use lib.ListN.{length}
 use lib.Dec.{leb, eqb, lit<}
 use borrow.Author.Tests.{leb-true, le-leb, eqb-true, eqb-false}
-use Rattle.octets.specs.Limits.{maxAnchors, maxCommunities, maxName, maxAnchorOctets, maxNumber}
+use Rattle.octets.specs.Limits.{maxAnchors, maxCommunities, maxNameOctets, maxAnchorOctets, maxNumber}
 use Rattle.octets.specs.Lists.{allOf}
 use Rattle.octets.specs.Octets.{Octets, distinct}
 use Rattle.octets.specs.Number.{bigEndian}
 use Rattle.octets.proofs.Lists.{by-test, both}
 use Rattle.der.specs.Contents.{oidOk}
 use Rattle.anchor.specs.Judge.{storable}
-use Rattle.store.specs.Store.{Device, Anchor, Store, anchors, keyOf}
+use Rattle.store.specs.Store.{Device, Anchor, Store, anchors, publicKeyOf}
 use Rattle.store.specs.Image.{found, provided, passOn, readNumber, readSized, encodeName, encodeNumber, encodeAnchor, encodeSection, encodeDevice}
 use Rattle.store.specs.Image.{encode, readDevice, presentNumber, numberOk, readAnchor, readCommunity, readDeviceSection, readAnchorSection}
 use Rattle.store.specs.Image.{readCommunitySection, readStore, nameOk, anchorOk, wellFormed}
@@ -30,17 +30,17 @@ use Rattle.store.proofs.Storable.{storable-size}
 name-sized : (o rest : List ℕ) → nameOk o ≡ true → encodeName o ++ rest ≡ writeSized 1 o ++ rest
 unfolding nameOk
 name-sized o rest g =
-    let h = and-eq-true-iff (leb 1 (length o)) (leb (length o) maxName) .0 g in
-    let l : length o < 256 = omega (arith, leb-true (length o) maxName (h .1)) in
+    let h = and-eq-true-iff (leb 1 (length o)) (leb (length o) maxNameOctets) .0 g in
+    let l : length o < 256 = omega (arith, leb-true (length o) maxNameOctets (h .1)) in
     ap (λ (n : List ℕ). n ++ o ++ rest) (sym (octet-bigEndian (length o) l))
 
-pub name : Format (readSized 1 maxName) encodeName nameOk
+pub name : Format (readSized 1 maxNameOctets) encodeName nameOk
 unfolding nameOk
 name = record {
-  reads = λ o rest g. rw (name-sized o rest g) (sized-read 1 maxName (lit< tt) o rest g);
+  reads = λ o rest g. rw (name-sized o rest g) (sized-read 1 maxNameOctets (lit< tt) o rest g);
   was = λ s o rest e.
-      let w = sized-was 1 maxName s o rest e in
-      record { good = w .good; back = λ v. name-sized o rest (w .good) ∙ w .back v };
+      let w = sized-was 1 maxNameOctets s o rest e in
+      record { valid = w .valid; back = λ v. name-sized o rest (w .valid) ∙ w .back v };
 }
 
 abbrev pub communityOk : List ℕ → Bool
@@ -57,8 +57,8 @@ unfolding readCommunity
 community-was s o rest e =
     let p = passed _ _ _ e in
     let g = granted _ _ _ _ (p .second) in
-    let w = name .was s (p .value) (p .behind) (p .first) in
-    as-found (Was encodeName communityOk s) _ _ _ _ (g .1) (record { good = both (w .good) (g .0); back = w .back })
+    let w = name .was s (p .value) (p .after) (p .first) in
+    as-found (Was encodeName communityOk s) _ _ _ _ (g .1) (record { valid = both (w .valid) (g .0); back = w .back })
 
 pub community : Format readCommunity encodeName communityOk
 community = record { reads = community-read; was = community-was }
@@ -98,12 +98,12 @@ device-was s d rest e =
     let p = passed _ _ _ e in
     let q = passed _ _ _ (p .second) in
     let g = granted _ _ _ _ (q .second) in
-    let v = name .was s (p .value) (p .behind) (p .first) in
-    let w = name .was (p .behind) (q .value) (q .behind) (q .first) in
+    let v = name .was s (p .value) (p .after) (p .first) in
+    let w = name .was (p .after) (q .value) (q .after) (q .first) in
     as-found (Was encodeDevice deviceOk s) _ _ _ _ (g .1)
     (record {
-      good = both (both (v .good) (g .0)) (w .good);
-      back = λ o. in-turn (encodeName (p .value)) (encodeName (q .value)) (q .behind) (p .behind) s (v .back o) (w .back) o;
+      valid = both (both (v .valid) (g .0)) (w .valid);
+      back = λ o. in-turn (encodeName (p .value)) (encodeName (q .value)) (q .after) (p .after) s (v .back o) (w .back) o;
     })
 
 -- its section: count 1
@@ -120,11 +120,11 @@ unfolding readDeviceSection
 deviceSection-was s d rest e =
     let p = passed _ _ _ e in
     let g = granted _ _ _ _ (p .second) in
-    let c = octet-found s (p .value) (p .behind) (p .first) in
-    let w = device-was (p .behind) d rest (g .1) in
+    let c = octet-found s (p .value) (p .after) (p .first) in
+    let w = device-was (p .after) d rest (g .1) in
     record {
-      good = w .good;
-      back = λ o. write-device d rest ∙ in-turn (1 ∷ []) (encodeDevice d) rest (p .behind) s (rw (eqb-true (p .value) 1 (g .0)) at c) (w .back) o;
+      valid = w .valid;
+      back = λ o. write-device d rest ∙ in-turn (1 ∷ []) (encodeDevice d) rest (p .after) s (rw (eqb-true (p .value) 1 (g .0)) at c) (w .back) o;
     }
 
 pub deviceSection : Format readDeviceSection writeDevice deviceOk
@@ -134,7 +134,7 @@ deviceSection = record { reads = deviceSection-read; was = deviceSection-was }
 
 -- "number present (0 or 1), number (.. zero if absent)": what the two octet strings give, and what it is written as
 pub record Numbered (present n : ℕ) : Type 0 where
-  pub good : Option·elim (presentNumber present n) true (λ m. leb m maxNumber) ≡ true
+  pub valid : Option·elim (presentNumber present n) true (λ m. leb m maxNumber) ≡ true
   pub back : encodeNumber (presentNumber present n) ≡ present ∷ bigEndian 8 n
 
 pub numbered : (present n : ℕ) → numberOk present n ≡ true → Numbered present n
@@ -143,10 +143,10 @@ numbered present n g =
     let h = and-eq-true-iff (leb present 1 && leb n maxNumber) (eqb present 1 || eqb n 0) .0 g in
     let k = and-eq-true-iff (leb present 1) (leb n maxNumber) .0 (h .0) in
     by-test (eqb present 1)
-    (λ e. rw (eqb-true present 1 e) (record { good = k .1; back = refl }))
+    (λ e. rw (eqb-true present 1 e) (record { valid = k .1; back = refl }))
     (λ e.
     let z : present ≡ 0 = omega (arith, leb-true present 1 (k .0), eqb-false present 1 e) in
-    rw (z, eqb-true n 0 (rw e at (h .1))) (record { good = refl; back = refl }))
+    rw (z, eqb-true n 0 (rw e at (h .1))) (record { valid = refl; back = refl }))
 
 number-was : (present n : ℕ) (s t rest : List ℕ) → present ∷ t ≡ s → readNumber 8 t ≡ found n rest → numberOk present n ≡ true → Octets s
     → encodeNumber (presentNumber present n) ++ rest ≡ s
@@ -197,14 +197,14 @@ anchor-was s a rest e =
     let r = passed _ _ _ (q .second) in
     let g = granted _ _ _ _ (r .second) in
     let h = and-eq-true-iff (numberOk (p .value) (q .value)) (storable (r .value)) .0 (g .0) in
-    let c = octet-found s (p .value) (p .behind) (p .first) in
-    let w = sized-was 2 maxAnchorOctets (q .behind) (r .value) (r .behind) (r .first) in
+    let c = octet-found s (p .value) (p .after) (p .first) in
+    let w = sized-was 2 maxAnchorOctets (q .after) (r .value) (r .after) (r .first) in
     as-found (Was encodeAnchor anchorOk s) _ _ _ _ (g .1)
     (record {
-      good = both (numbered (p .value) (q .value) (h .0) .good) (h .1);
+      valid = both (numbered (p .value) (q .value) (h .0) .valid) (h .1);
       back = λ o.
-          in-turn (encodeNumber (presentNumber (p .value) (q .value))) (writeSized 2 (r .value)) (r .behind) (q .behind) s
-          (number-was (p .value) (q .value) s (p .behind) (q .behind) c (q .first) (h .0) o)
+          in-turn (encodeNumber (presentNumber (p .value) (q .value))) (writeSized 2 (r .value)) (r .after) (q .after) s
+          (number-was (p .value) (q .value) s (p .after) (q .after) c (q .first) (h .0) o)
           (w .back)
           o;
     })
@@ -216,7 +216,7 @@ anchor = record { reads = λ a rest. anchor-read (a .number) (a .info) rest; was
 
 -- "Public keys .. differ pairwise"
 abbrev pub apart : List Anchor → Bool
-apart l = distinct (map keyOf l)
+apart l = distinct (map publicKeyOf l)
 
 abbrev pub anchorsOk : List Anchor → Bool
 anchorsOk = sectionOk anchorOk maxAnchors apart
@@ -252,18 +252,18 @@ anchorSection-was s b rest e =
     let r = passed _ _ _ (q .second) in
     let g = granted _ _ _ _ (q .first) in
     let h = granted _ _ _ _ (r .second) in
-    let c = octet-found s (p .value) (p .behind) (p .first) in
+    let c = octet-found s (p .value) (p .after) (p .first) in
     let k = and-eq-true-iff (leb 1 (p .value)) (leb (p .value) maxAnchors) .0 (g .0) in
-    let a = anchor .was (p .behind) (q .value) (q .behind) (g .1) in
-    let t = times-found readAnchor encodeAnchor anchorOk anchor (p .value - 1) (q .behind) (r .value) (r .behind) (r .first) in
+    let a = anchor .was (p .after) (q .value) (q .after) (g .1) in
+    let t = times-found readAnchor encodeAnchor anchorOk anchor (p .value - 1) (q .after) (r .value) (r .after) (r .first) in
     let l : p .value ≡ suc (length (r .value)) = omega (arith, t .count, leb-true 1 (p .value) (k .0)) in
     let m : leb (suc (length (r .value))) maxAnchors ≡ true = rw l at (k .1) in
     as-found (Was writeAnchors (λ b. anchorsOk (listed b)) s) _ _ _ _ (h .1)
     (record {
-      good = both (both m (both (a .good) (t .good))) (h .0);
+      valid = both (both m (both (a .valid) (t .valid))) (h .0);
       back =
-          in-turn (suc (length (r .value)) ∷ []) (flatMap encodeAnchor (q .value ∷ r .value)) (r .behind) (p .behind) s (rw l at c)
-          (λ v. in-turn (encodeAnchor (q .value)) (flatMap encodeAnchor (r .value)) (r .behind) (q .behind) (p .behind) (a .back v) (t .back) v);
+          in-turn (suc (length (r .value)) ∷ []) (flatMap encodeAnchor (q .value ∷ r .value)) (r .after) (p .after) s (rw l at c)
+          (λ v. in-turn (encodeAnchor (q .value)) (flatMap encodeAnchor (r .value)) (r .after) (q .after) (p .after) (a .back v) (t .back) v);
     })
 
 pub anchorSection : Format readAnchorSection writeAnchors (λ b. anchorsOk (listed b))
@@ -354,16 +354,16 @@ store-was s σ rest e =
     let p = passed _ _ _ e in
     let q = passed _ _ _ (p .second) in
     let r = passed _ _ _ (q .second) in
-    let d = deviceSection .was s (p .value) (p .behind) (p .first) in
-    let a = anchorSection .was (p .behind) (q .value) (q .behind) (q .first) in
-    let c = communitySection .was (q .behind) (r .value) (r .behind) (r .first) in
+    let d = deviceSection .was s (p .value) (p .after) (p .first) in
+    let a = anchorSection .was (p .after) (q .value) (q .after) (q .first) in
+    let c = communitySection .was (q .after) (r .value) (r .after) (r .first) in
     let w = encodeSection encodeName (r .value) in
     as-found (Was encode wellFormed s) _ _ _ _ (r .second)
     (record {
-      good = from-sections _ (d .good) (a .good) (c .good);
+      valid = from-sections _ (d .valid) (a .valid) (c .valid);
       back = λ o.
-          in-turn (writeDevice (p .value)) (writeAnchors (q .value) ++ w) (r .behind) (p .behind) s (d .back o)
-          (λ v. in-turn (writeAnchors (q .value)) w (r .behind) (q .behind) (p .behind) (a .back v) (c .back) v)
+          in-turn (writeDevice (p .value)) (writeAnchors (q .value) ++ w) (r .after) (p .after) s (d .back o)
+          (λ v. in-turn (writeAnchors (q .value)) w (r .after) (q .after) (p .after) (a .back v) (c .back) v)
           o;
     })
 

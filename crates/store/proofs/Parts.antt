@@ -1,17 +1,17 @@
 -- The parts of an image (specs/Parts) are those of its store.
-use Prim.Native.Nat.{ℕ, zero, suc, _+_, _-_, _≤_, _<_}
+use Prim.Native.Nat.{ℕ, zero, suc, _+_, _-_, _<_}
 use native.Mathlib.Omega.{arith}
 use mathlib.Core.Bool.{Bool, true, false, and-eq-true-iff}
 use mathlib.Core.List.{List, [], _∷_, _++_, map, flatMap, append-assoc, map-map}
 use mathlib.Core.Option.{some}
 use mathlib.Core.Path.{_≡_, refl, sym, ap, ap₂, _∙_}
-use lib.ListN.{length, take, drop, getD, length-map, length-append, length-take, length-drop}
+use lib.ListN.{length, take, drop, getD, length-map, length-append}
 use lib.Seq.{drop-drop, drop-at, take-at}
 use lib.Dec.{leb}
 use borrow.Author.Tests.{leb-true}
 use Rattle.octets.specs.Limits.{maxAnchors}
 use Rattle.octets.specs.Lists.{anyOf}
-use Rattle.octets.specs.Octets.{Octets, octet, part}
+use Rattle.octets.specs.Octets.{Octets, octet, slice}
 use Rattle.octets.specs.Number.{number}
 use Rattle.octets.proofs.Lists.{by-test}
 use Rattle.octets.proofs.Number.{octets-drop}
@@ -32,7 +32,7 @@ use Rattle.store.proofs.Taken.{octet-taken, name-taken, names-taken, An
 -- what the readers found at a place
 
 name-place : (most : ℕ) (s : List ℕ) (p : ℕ) (o t : List ℕ) → readSized 1 most (drop p s) ≡ found o t
-    → (o ≡ part s (p + 1) (p + 1 + octet s p)) × (t ≡ drop (p + 1 + octet s p) s)
+    → (o ≡ slice s (p + 1) (p + 1 + octet s p)) × (t ≡ drop (p + 1 + octet s p) s)
 name-place most s p o t e =
     let h = name-taken most (drop p s) o t e in
     let n = octet s p in
@@ -55,12 +55,12 @@ unfolding readDeviceSection readDevice hwTypeIn serialIn
 device-place image d t e =
     let p = passed _ _ _ e in
     let g = granted _ _ _ _ (p .second) in
-    let c = octet-taken image (p .value) (p .behind) (p .first) in
+    let c = octet-taken image (p .value) (p .after) (p .first) in
     let v = passed _ _ _ (g .1) in
     let w = passed _ _ _ (v .second) in
     let h = granted _ _ _ _ (w .second) in
-    let i = name-place _ image 1 (v .value) (v .behind) (sym (ap (readSized 1 _) (c .1)) ∙ v .first) in
-    let j = name-place _ image (serialPlace image) (w .value) (w .behind) (sym (ap (readSized 1 _) (i .1)) ∙ w .first) in
+    let i = name-place _ image 1 (v .value) (v .after) (sym (ap (readSized 1 _) (c .1)) ∙ v .first) in
+    let j = name-place _ image (serialPlace image) (w .value) (w .after) (sym (ap (readSized 1 _) (i .1)) ∙ w .first) in
     as-found (DevicePlace image) _ _ _ _ (h .1) (record { hwType = sym (i .0); serial = sym (j .0); rest = j .1 })
 
 anchors-place : (s : List ℕ) (p : ℕ) (b : Anchor × List Anchor) (t : List ℕ) → readAnchorSection (drop p s) ≡ found b t
@@ -72,15 +72,15 @@ anchors-place s p b t e =
     let w = passed _ _ _ (v .second) in
     let g = granted _ _ _ _ (v .first) in
     let h = granted _ _ _ _ (w .second) in
-    let o = octet-taken (drop p s) (u .value) (u .behind) (u .first) in
-    let c = count-place s p (u .value) (u .behind) (o .0) (o .1) in
+    let o = octet-taken (drop p s) (u .value) (u .after) (u .first) in
+    let c = count-place s p (u .value) (u .after) (o .0) (o .1) in
     let k = and-eq-true-iff (leb 1 (u .value)) (leb (u .value) maxAnchors) .0 (g .0) in
     let n : octet s p ≡ suc (u .value - 1) = omega (arith, leb-true 1 (u .value) (k .0), c .0) in
-    let whole : readTimes (suc (u .value - 1)) readAnchor (u .behind) ≡ found (v .value ∷ w .value) (w .behind) =
+    let encoding : readTimes (suc (u .value - 1)) readAnchor (u .after) ≡ found (v .value ∷ w .value) (w .after) =
     passes _ _ _ _ (g .1) ∙ passes _ _ _ _ (w .first)
     in
     as-found (λ b t. Anchors s (p + 1) (octet s p) (listed b) t) _ _ _ _ (h .1)
-    (anchors-taken s (octet s p) (p + 1) _ _ (ap₂ (λ (m : ℕ) (r : List ℕ). readTimes m readAnchor r) n (sym (c .1)) ∙ whole))
+    (anchors-taken s (octet s p) (p + 1) _ _ (ap₂ (λ (m : ℕ) (r : List ℕ). readTimes m readAnchor r) n (sym (c .1)) ∙ encoding))
 
 communities-place : (s : List ℕ) (p : ℕ) (l : List (List ℕ)) (t : List ℕ) → readCommunitySection (drop p s) ≡ found l t
     → namesFrom (octet s p) (take (namesSize (octet s p) (drop (p + 1) s)) (drop (p + 1) s)) ≡ l
@@ -90,11 +90,11 @@ communities-place s p l t e =
     let v = passed _ _ _ (u .second) in
     let g = granted _ _ _ _ (v .first) in
     let h = granted _ _ _ _ (v .second) in
-    let o = octet-taken (drop p s) (u .value) (u .behind) (u .first) in
-    let c = count-place s p (u .value) (u .behind) (o .0) (o .1) in
+    let o = octet-taken (drop p s) (u .value) (u .after) (u .first) in
+    let c = count-place s p (u .value) (u .after) (o .0) (o .1) in
     names-cut (octet s p) (drop (p + 1) s)
     ∙ sym (ap₂ namesFrom (c .0) (c .1))
-    ∙ sym (names-taken (u .value) (u .behind) (v .value) (v .behind) (g .1))
+    ∙ sym (names-taken (u .value) (u .after) (v .value) (v .after) (g .1))
     ∙ same-found _ _ _ _ (h .1) .0
 
 -- the communities' octets end where the last one does
@@ -136,8 +136,8 @@ parts image σ e =
     let q = passed _ _ _ (p .second) in
     let r = passed _ _ _ (q .second) in
     let z = same-found _ _ _ _ (r .second) in
-    let d = device-place image (p .value) (p .behind) (p .first) in
-    let a = anchors-place image (anchorPlace image) (q .value) (q .behind) (sym (ap readAnchorSection (d .rest)) ∙ q .first) in
+    let d = device-place image (p .value) (p .after) (p .first) in
+    let a = anchors-place image (anchorPlace image) (q .value) (q .after) (sym (ap readAnchorSection (d .rest)) ∙ q .first) in
     let c : readCommunitySection (drop (communityPlace image) image) ≡ found (r .value) [] =
     sym (ap readCommunitySection (a .rest)) ∙ r .first ∙ ap (found (r .value)) (z .1)
     in
@@ -163,7 +163,7 @@ module _ (image : List ℕ) (σ : Store) (e : decode image ≡ some σ) where
 pub records-count : (n : ℕ) (s : List ℕ) → length (recordsFrom n s) ≡ n
 unfolding recordsFrom
 records-count zero s = refl
-records-count (suc n) s = ap suc (records-count n (drop (11 + number (part s 9 11)) s))
+records-count (suc n) s = ap suc (records-count n (drop (11 + number (slice s 9 11)) s))
 
 names-count : (n : ℕ) (s : List ℕ) → length (namesFrom n s) ≡ n
 unfolding namesFrom
@@ -204,9 +204,3 @@ module _ {A : Type 0} (p : A → Bool) where
       by-test (p x)
       (λ e. ap isAt (first-here p i x l e) ∙ rw e)
       (λ e. ap isAt (first-later p i x l e) ∙ first-any (suc i) l ∙ rw e)
-
-pub communities-short : (image : List ℕ) → length (communityOctets image) ≤ length image
-unfolding communityOctets
-communities-short image =
-    let names = drop (communityPlace image + 1) image in
-    omega (arith, length-take (namesSize (communityCount image) names) names, length-drop (communityPlace image + 1) image)

@@ -126,10 +126,10 @@ module _ (s : List ℕ) (p : ℕ) where
 
 -- the parts of a record
 
--- its length octets, and what is behind them
-record-behind : (a : Anchor) (rest : List ℕ) → drop 9 (encodeAnchor a ++ rest) ≡ bigEndian 2 (length (a .info)) ++ (a .info ++ rest)
+-- its length octets, and what is after them
+record-after : (a : Anchor) (rest : List ℕ) → drop 9 (encodeAnchor a ++ rest) ≡ bigEndian 2 (length (a .info)) ++ (a .info ++ rest)
 unfolding encodeAnchor
-record-behind a rest =
+record-after a rest =
     ap (drop 9) (append-assoc (encodeNumber (a .number)) (writeSized 2 (a .info)) rest)
     ∙ drop-at (encodeNumber (a .number)) (writeSized 2 (a .info) ++ rest) 9 (length-encodeNumber (a .number))
     ∙ append-assoc (bigEndian 2 (length (a .info))) (a .info) rest
@@ -137,7 +137,7 @@ record-behind a rest =
 pub record-size : (a : Anchor) (rest : List ℕ) → anchorOk a ≡ true → number (take 2 (drop 9 (encodeAnchor a ++ rest))) ≡ length (a .info)
 record-size a rest g =
     let n = length (a .info) in
-    ap (λ (t : List ℕ). number (take 2 t)) (record-behind a rest)
+    ap (λ (t : List ℕ). number (take 2 t)) (record-after a rest)
     ∙ ap number (take-at (bigEndian 2 n) (a .info ++ rest) 2 (length-bigEndian 2 n))
     ∙ number-bigEndian 2 n (omega (arith, info-size a g .1))
 
@@ -145,6 +145,6 @@ pub record-info : (a : Anchor) → drop 11 (encodeAnchor a) ≡ a .info
 record-info a =
     sym (drop-drop 2 9 (encodeAnchor a))
     ∙ ap (λ (t : List ℕ). drop 2 (drop 9 t)) (sym (append-nil (encodeAnchor a)))
-    ∙ ap (drop 2) (record-behind a [])
+    ∙ ap (drop 2) (record-after a [])
     ∙ drop-at (bigEndian 2 (length (a .info))) (a .info ++ []) 2 (length-bigEndian 2 (length (a .info)))
     ∙ append-nil (a .info)

@@ -52,14 +52,14 @@ module _ {A B : Type 0} where
   -- two readers in turn: what the first found, and what the second did with it
   pub record Passed (o : Option (A × List ℕ)) (f : A → Reader B) (q : B × List ℕ) : Type 0 where
     pub value : A
-    pub behind : List ℕ
-    pub first : o ≡ found value behind
-    pub second : f value behind ≡ some q
+    pub after : List ℕ
+    pub first : o ≡ found value after
+    pub second : f value after ≡ some q
 
   pub passed : (o : Option (A × List ℕ)) (f : A → Reader B) (q : B × List ℕ) → passOn o f ≡ some q → Passed o f q
   unfolding passOn
   passed none f q e = absurd (Option·none-ne-some q e)
-  passed (some p) f q e = record { value = p .0; behind = p .1; first = refl; second = e }
+  passed (some p) f q e = record { value = p .0; after = p .1; first = refl; second = e }
 
   pub passes : (o : Option (A × List ℕ)) (f : A → Reader B) (x : A) (t : List ℕ) → o ≡ found x t → passOn o f ≡ f x t
   unfolding passOn
@@ -75,19 +75,19 @@ module _ {A B : Type 0} where
 pub octets-front : (a b s : List ℕ) → a ++ b ≡ s → Octets s → Octets a
 octets-front a b s e o = rw (← take-at a b (length a) refl, e) (octets-take s (length a) o)
 
-pub octets-behind : (a b s : List ℕ) → a ++ b ≡ s → Octets s → Octets b
-octets-behind a b s e o = rw (← drop-at a b (length a) refl, e) (octets-drop s (length a) o)
+pub octets-after : (a b s : List ℕ) → a ++ b ≡ s → Octets s → Octets b
+octets-after a b s e o = rw (← drop-at a b (length a) refl, e) (octets-drop s (length a) o)
 
 -- what was written in two parts, the second where the first ends
 pub in-turn : (a b rest t s : List ℕ) → a ++ t ≡ s → (Octets t → b ++ rest ≡ t) → Octets s → a ++ b ++ rest ≡ s
-in-turn a b rest t s e f o = append-assoc a b rest ∙ ap (λ (r : List ℕ). a ++ r) (f (octets-behind a t s e o)) ∙ e
+in-turn a b rest t s e f o = append-assoc a b rest ∙ ap (λ (r : List ℕ). a ++ r) (f (octets-after a t s e o)) ∙ e
 
 -- A format: a reader, a writer, and a test that values pass
 
 module _ {A : Type 0} where
   -- a value that was read: it passes, and the writer writes what stood there
   pub record Was (w : A → List ℕ) (ok : A → Bool) (s : List ℕ) (x : A) (rest : List ℕ) : Type 0 where
-    pub good : ok x ≡ true
+    pub valid : ok x ≡ true
     pub back : Octets s → w x ++ rest ≡ s
 
   pub record Format (r : Reader A) (w : A → List ℕ) (ok : A → Bool) : Type 0 where
@@ -119,8 +119,8 @@ unfolding readNumber
 number-found k s n rest e o =
     let p = passed _ _ _ e in
     let q = same-found _ _ _ _ (p .second) in
-    let t = octets-found k s (p .value) (p .behind) (p .first) in
-    let v : Octets (p .value) = octets-front (p .value) (p .behind) s (t .1) o in
+    let t = octets-found k s (p .value) (p .after) (p .first) in
+    let v : Octets (p .value) = octets-front (p .value) (p .after) s (t .1) o in
     ap₂ _++_ (ap (bigEndian k) (sym (q .0)) ∙ ap (λ (j : ℕ). bigEndian j (number (p .value))) (sym (t .0)) ∙ bigEndian-number (p .value) v) (sym (q .1))
     ∙ t .1
 
@@ -162,10 +162,10 @@ unfolding readSized
 sized-was k most s o rest e =
     let p = passed _ _ _ e in
     let g = granted _ _ _ _ (p .second) in
-    let t = octets-found (p .value) (p .behind) o rest (g .1) in
+    let t = octets-found (p .value) (p .after) o rest (g .1) in
     record {
-      good = rw (t .0) (g .0);
-      back = λ v. in-turn (bigEndian k (length o)) o rest (p .behind) s (rw (t .0) (number-found k s (p .value) (p .behind) (p .first) v)) (λ _. t .1) v;
+      valid = rw (t .0) (g .0);
+      back = λ v. in-turn (bigEndian k (length o)) o rest (p .after) s (rw (t .0) (number-found k s (p .value) (p .after) (p .first) v)) (λ _. t .1) v;
     }
 
 -- so many in turn, each of one format
@@ -173,7 +173,7 @@ sized-was k most s o rest e =
 -- a list that was read so: its count, that every member passes, and that the writer writes what stood there
 pub record Times {A : Type 0} (w : A → List ℕ) (ok : A → Bool) (n : ℕ) (s : List ℕ) (l : List A) (rest : List ℕ) : Type 0 where
   pub count : length l ≡ n
-  pub good : allOf ok l ≡ true
+  pub valid : allOf ok l ≡ true
   pub back : Octets s → flatMap w l ++ rest ≡ s
 
 -- a section: its count, at most `most`, and so many, which pass a test together
@@ -209,17 +209,17 @@ module _ {A : Type 0} (r : Reader A) (w : A → List ℕ) (ok : A → Bool) (for
   pub times-found : (n : ℕ) (s : List ℕ) (l : List A) (rest : List ℕ) → readTimes n r s ≡ found l rest → Times w ok n s l rest
   unfolding readTimes allOf flatMap
   times-found zero s l rest e =
-      as-found (Times w ok 0 s) [] l s rest e (record { count = refl; good = refl; back = λ o. refl })
+      as-found (Times w ok 0 s) [] l s rest e (record { count = refl; valid = refl; back = λ o. refl })
   times-found (suc n) s l rest e =
       let p = passed _ _ _ e in
       let q = passed _ _ _ (p .second) in
-      let i = times-found n (p .behind) (q .value) (q .behind) (q .first) in
-      let f = form .was s (p .value) (p .behind) (p .first) in
+      let i = times-found n (p .after) (q .value) (q .after) (q .first) in
+      let f = form .was s (p .value) (p .after) (p .first) in
       as-found (Times w ok (suc n) s) _ _ _ _ (q .second)
       (record {
         count = ap suc (i .count);
-        good = both (f .good) (i .good);
-        back = λ o. in-turn (w (p .value)) (flatMap w (q .value)) (q .behind) (p .behind) s (f .back o) (i .back) o;
+        valid = both (f .valid) (i .valid);
+        back = λ o. in-turn (w (p .value)) (flatMap w (q .value)) (q .after) (p .after) s (f .back o) (i .back) o;
       })
 
   pub section-read : (most : ℕ) (test : List A → Bool) (l : List A) (rest : List ℕ) → sectionOk ok most test l ≡ true
@@ -236,13 +236,13 @@ module _ {A : Type 0} (r : Reader A) (w : A → List ℕ) (ok : A → Bool) (for
       let q = passed _ _ _ (p .second) in
       let g = granted _ _ _ _ (q .first) in
       let h = granted _ _ _ _ (q .second) in
-      let c = octet-found s (p .value) (p .behind) (p .first) in
-      let t = times-found (p .value) (p .behind) (q .value) (q .behind) (g .1) in
+      let c = octet-found s (p .value) (p .after) (p .first) in
+      let t = times-found (p .value) (p .after) (q .value) (q .after) (g .1) in
       let m : leb (length (q .value)) most ≡ true = rw (t .count) (g .0) in
       as-found (Was (encodeSection w) (sectionOk ok most test) s) _ _ _ _ (h .1)
       (record {
-        good = both (both m (t .good)) (h .0);
-        back = in-turn (length (q .value) ∷ []) (flatMap w (q .value)) (q .behind) (p .behind) s (rw (t .count) c) (t .back);
+        valid = both (both m (t .valid)) (h .0);
+        back = in-turn (length (q .value) ∷ []) (flatMap w (q .value)) (q .after) (p .after) s (rw (t .count) c) (t .back);
       })
 
   pub section : (most : ℕ) (test : List A → Bool) → Format (readSection r most test) (encodeSection w) (sectionOk ok most test)

@@ -26,7 +26,7 @@ decode-encode σ g = rw (← append-nil (encode σ), store .reads σ [] g)
 
 pub decode-wellFormed : (image : List ℕ) (σ : Store) → decode image ≡ some σ → wellFormed σ ≡ true
 unfolding decode
-decode-wellFormed image σ e = store .was image σ [] (alone-found (readStore image) σ e) .good
+decode-wellFormed image σ e = store .was image σ [] (alone-found (readStore image) σ e) .valid
 
 pub encode-decode : (image : List ℕ) (σ : Store) → Octets image → decode image ≡ some σ → encode σ ≡ image
 unfolding decode

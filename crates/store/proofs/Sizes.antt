@@ -9,7 +9,7 @@ use mathlib.Core.Path.{_≡_, ap}
 use lib.ListN.{length, length-append}
 use lib.Dec.{leb}
 use borrow.Author.Tests.{leb-true}
-use Rattle.octets.specs.Limits.{maxName, maxAnchorOctets, maxNumber, imageRoom}
+use Rattle.octets.specs.Limits.{maxNameOctets, maxAnchorOctets, maxNumber, imageRoom}
 use Rattle.octets.specs.Lists.{allOf}
 use Rattle.octets.specs.Number.{bigEndian}
 use Rattle.octets.proofs.Number.{length-bigEndian}
@@ -22,16 +22,16 @@ use Rattle.store.proofs.Formats.{writeDevice, communityOk, rules}
 
 -- what the tests say of sizes
 
-pub name-size : (o : List ℕ) → nameOk o ≡ true → (1 ≤ length o) × (length o ≤ maxName)
+pub name-size : (o : List ℕ) → nameOk o ≡ true → (1 ≤ length o) × (length o ≤ maxNameOctets)
 unfolding nameOk
 name-size o g =
-    let h = and-eq-true-iff (leb 1 (length o)) (leb (length o) maxName) .0 g in
-    (leb-true 1 (length o) (h .0), leb-true (length o) maxName (h .1))
+    let h = and-eq-true-iff (leb 1 (length o)) (leb (length o) maxNameOctets) .0 g in
+    (leb-true 1 (length o) (h .0), leb-true (length o) maxNameOctets (h .1))
 
 pub community-name : (c : List ℕ) → communityOk c ≡ true → nameOk c ≡ true
 community-name c g = and-eq-true-iff (nameOk c) (oidOk c) .0 g .0
 
-pub community-size : (c : List ℕ) → communityOk c ≡ true → (1 ≤ length c) × (length c ≤ maxName)
+pub community-size : (c : List ℕ) → communityOk c ≡ true → (1 ≤ length c) × (length c ≤ maxNameOctets)
 community-size c g = name-size c (community-name c g)
 
 pub info-storable : (a : Anchor) → anchorOk a ≡ true → storable (a .info) ≡ true

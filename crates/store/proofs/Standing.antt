@@ -11,7 +11,8 @@ use Rattle.octets.specs.Octets.{octet}
 use Rattle.octets.specs.Number.{number}
 use Rattle.store.specs.Store.{Anchor, Store, anchors}
 use Rattle.store.specs.Image.{encodeName, encodeAnchor, encodeSection, encodeDevice, encode, anchorOk, wellFormed}
-use Rattle.store.specs.Parts.{anchorPlace, firstRecord, recordEnd, recordAt, recordPlace, placeOf, infoIn, infoAt, communityPlace, communityCount, communityOctets, namesSize}
+use Rattle.store.specs.Parts.{anchorPlace, firstRecord, recordEnd, recordAt, recordPlace, placeOf, infoIn, infoAt, communityPlace, communityCount}
+use Rattle.store.specs.Parts.{communityOctets, namesSize}
 use Rattle.store.proofs.Formats.{writeDevice, rules}
 use Rattle.store.proofs.RoundTrip.{decode-encode}
 use Rattle.store.proofs.Parts.{count-of-anchors, sizes-are}
@@ -25,7 +26,7 @@ module _ {A : Type 0} (w : A → List ℕ) where
   flatMap-append [] y = refl
   flatMap-append (a ∷ x) y = ap (λ (r : List ℕ). w a ++ r) (flatMap-append x y) ∙ sym (append-assoc (w a) (flatMap w x) (flatMap w y))
 
-  -- the octets h before a section, then its items x and y, and the octets t behind it
+  -- the octets h before a section, then its items x and y, and the octets t after it
   pub section-split : (h t : List ℕ) (x y : List A) {n : ℕ} → length (x ++ y) ≡ n
       → h ++ (encodeSection w (x ++ y) ++ t) ≡ (h ++ (n ∷ flatMap w x)) ++ (flatMap w y ++ t)
   section-split h t x y {n} e =
@@ -35,7 +36,7 @@ module _ {A : Type 0} (w : A → List ℕ) where
   pub section-front : (h : List ℕ) (x : List A) (n : ℕ) → length (h ++ (n ∷ flatMap w x)) ≡ length h + 1 + length (flatMap w x)
   section-front h x n = omega (arith, length-append h (n ∷ flatMap w x))
 
--- where the record stands that is behind those of the anchors x
+-- where the record stands that is after those of the anchors x
 abbrev pub upTo : Store → List Anchor → ℕ
 upTo σ x = length (writeDevice (σ .device)) + 1 + length (flatMap encodeAnchor x)
 
@@ -51,7 +52,7 @@ module _ (σ : Store) where
   abbrev rest : List ℕ
   rest = encodeSection encodeName (σ .communities)
 
-  -- the anchors' count stands behind the device's count, and hwType and serial behind their lengths
+  -- the anchors' count stands after the device's count, and hwType and serial after their lengths
   pub anchor-place : anchorPlace (encode σ) ≡ length dev
   unfolding encode encodeDevice flatMap
   anchor-place =
@@ -104,10 +105,10 @@ module _ (σ : Store) where
 
   module _ (g : wellFormed σ ≡ true) where
     module _ (x y : List Anchor) (a : Anchor) (e : anchors σ ≡ x ++ (a ∷ y)) where
-      abbrev behind : List ℕ
-      behind = flatMap encodeAnchor y ++ rest
+      abbrev after : List ℕ
+      after = flatMap encodeAnchor y ++ rest
 
-      record-there : drop (upTo σ x) (encode σ) ≡ encodeAnchor a ++ behind
+      record-there : drop (upTo σ x) (encode σ) ≡ encodeAnchor a ++ after
       unfolding flatMap
       record-there = from-there x (a ∷ y) e ∙ append-assoc (encodeAnchor a) (flatMap encodeAnchor y) rest
 
@@ -121,14 +122,14 @@ module _ (σ : Store) where
       record-end =
           let ok : anchorOk a ≡ true = anchor-ok x y a (rw e at (rules σ g .each-anchor)) in
           let n : number (take 2 (drop 9 (drop (upTo σ x) (encode σ)))) ≡ length (a .info) =
-          ap (λ (s : List ℕ). number (take 2 (drop 9 s))) record-there ∙ record-size a behind ok
+          ap (λ (s : List ℕ). number (take 2 (drop 9 s))) record-there ∙ record-size a after ok
           in
           omega (arith, n, record-inside)
 
       pub info-here : infoIn (recordAt (encode σ) (upTo σ x)) ≡ a .info
       info-here =
           let n : length (encodeAnchor a) ≡ recordEnd (encode σ) (upTo σ x) - upTo σ x = omega (arith, length-encodeAnchor a, record-end) in
-          ap infoIn (ap (take (recordEnd (encode σ) (upTo σ x) - upTo σ x)) record-there ∙ take-at (encodeAnchor a) behind _ n) ∙ record-info a
+          ap infoIn (ap (take (recordEnd (encode σ) (upTo σ x) - upTo σ x)) record-there ∙ take-at (encodeAnchor a) after _ n) ∙ record-info a
 
     -- from one record on to a later one
     places-on : (n : ℕ) (x y : List Anchor) → anchors σ ≡ x ++ y → n ≤ length y → recordPlace (encode σ) (upTo σ x) n ≡ upTo σ (x ++ take n y)

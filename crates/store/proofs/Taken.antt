@@ -1,4 +1,4 @@
--- What the readers of the image found, by its place: the octets taken, and what is behind them.
+-- What the readers of the image found, by its place: the octets taken, and what is after them.
 use Prim.Native.Nat.{ℕ, zero, suc, _+_, _-_}
 use native.Mathlib.Nat.{zero-add}
 use native.Mathlib.Omega.{arith}
@@ -27,7 +27,7 @@ unfolding readNumber
 number-taken k s n t e =
     let p = passed _ _ _ e in
     let q = same-found _ _ _ _ (p .second) in
-    let o = octets-taken k s (p .value) (p .behind) (p .first) in
+    let o = octets-taken k s (p .value) (p .after) (p .first) in
     (sym (q .0) ∙ ap number (o .0), sym (q .1) ∙ o .1)
 
 octet-number : (s : List ℕ) → number (take 1 s) ≡ octet s 0
@@ -45,9 +45,9 @@ pub sized-taken : (k most : ℕ) (s o t : List ℕ) → readSized k most s ≡ f
 unfolding readSized
 sized-taken k most s o t e =
     let p = passed _ _ _ e in
-    let n = number-taken k s (p .value) (p .behind) (p .first) in
+    let n = number-taken k s (p .value) (p .after) (p .first) in
     let g = granted _ _ _ _ (p .second) in
-    let h = octets-taken (p .value) (p .behind) o t (g .1) in
+    let h = octets-taken (p .value) (p .after) o t (g .1) in
     (h .0 ∙ ap₂ take (n .0) (n .1), h .1 ∙ ap₂ drop (n .0) (n .1) ∙ drop-drop (number (take k s)) k s)
 
 -- a name: its length octet, and so many octets
@@ -63,7 +63,7 @@ community-taken s o t e =
     let p = passed _ _ _ e in
     let g = granted _ _ _ _ (p .second) in
     let q = same-found _ _ _ _ (g .1) in
-    let h = name-taken _ s (p .value) (p .behind) (p .first) in
+    let h = name-taken _ s (p .value) (p .after) (p .first) in
     (sym (q .0) ∙ h .0, sym (q .1) ∙ h .1)
 
 pub names-taken : (n : ℕ) (s : List ℕ) (l : List (List ℕ)) (t : List ℕ) → readTimes n readCommunity s ≡ found l t → l ≡ namesFrom n s
@@ -72,8 +72,8 @@ names-taken zero s l t e = sym (same-found _ _ _ _ e .0)
 names-taken (suc n) s l t e =
     let p = passed _ _ _ e in
     let q = passed _ _ _ (p .second) in
-    let h = community-taken s (p .value) (p .behind) (p .first) in
-    let i = names-taken n (p .behind) (q .value) (q .behind) (q .first) in
+    let h = community-taken s (p .value) (p .after) (p .first) in
+    let i = names-taken n (p .after) (q .value) (q .after) (q .first) in
     sym (same-found _ _ _ _ (q .second) .0) ∙ ap₂ _∷_ (h .0) (i ∙ ap (namesFrom n) (h .1))
 
 -- a record, cut from the octets
@@ -100,10 +100,10 @@ anchor-taken s a t e =
     let g = granted _ _ _ _ (r .second) in
     let w = same-found _ _ _ _ (g .1) in
     let m = number (take 2 (drop 9 s)) in
-    let i = octet-taken s (p .value) (p .behind) (p .first) in
-    let j = number-taken 8 (p .behind) (q .value) (q .behind) (q .first) in
-    let k = sized-taken 2 _ (q .behind) (r .value) (r .behind) (r .first) in
-    let b : q .behind ≡ drop 9 s = j .1 ∙ ap (drop 8) (i .1) ∙ drop-drop 8 1 s in
+    let i = octet-taken s (p .value) (p .after) (p .first) in
+    let j = number-taken 8 (p .after) (q .value) (q .after) (q .first) in
+    let k = sized-taken 2 _ (q .after) (r .value) (r .after) (r .first) in
+    let b : q .after ≡ drop 9 s = j .1 ∙ ap (drop 8) (i .1) ∙ drop-drop 8 1 s in
     let z : 9 + (2 + m) ≡ 11 + m = omega arith in
     let info : r .value ≡ infoIn (take (11 + m) s) =
     k .0 ∙ ap (λ (u : List ℕ). take (number (take 2 u)) (drop 2 u)) b ∙ ap (take m) (drop-drop 2 9 s) ∙ sym (cut-info s m)
@@ -132,10 +132,10 @@ anchors-taken s zero p l t e =
 anchors-taken s (suc n) p l t e =
     let v = passed _ _ _ e in
     let w = passed _ _ _ (v .second) in
-    let h = anchor-taken (drop p s) (v .value) (v .behind) (v .first) in
+    let h = anchor-taken (drop p s) (v .value) (v .after) (v .first) in
     let k = 11 + number (take 2 (drop 9 (drop p s))) in
-    let b : v .behind ≡ drop (recordEnd s p) s = h .1 ∙ cut-drop s p k in
-    let i = anchors-taken s n (recordEnd s p) (w .value) (w .behind) (sym (ap (readTimes n readAnchor) b) ∙ w .first) in
+    let b : v .after ≡ drop (recordEnd s p) s = h .1 ∙ cut-drop s p k in
+    let i = anchors-taken s n (recordEnd s p) (w .value) (w .after) (sym (ap (readTimes n readAnchor) b) ∙ w .first) in
     let q = same-found _ _ _ _ (w .second) in
     record {
       are =

@@ -1,4 +1,4 @@
--- The walk over records and names (specs/Parts): what stands at a place, and what is left behind it.
+-- The walk over records and names (specs/Parts): what stands at a place, and what is left after it.
 use Prim.Native.Nat.{ℕ, zero, suc, _+_, _-_, _≤_, _<_, min}
 use native.Mathlib.Omega.{arith}
 use native.Mathlib.Numerals.{add-one}
@@ -11,11 +11,11 @@ use lib.Seq.{take-all, take-nil, take-take, drop-drop, getD-drop}
 use lib.Dec.{leb, eqb}
 use borrow.Author.Tests.{leb-true, leb-false, eq-eqb, ne-eqb}
 use Rattle.octets.specs.Lists.{anyOf}
-use Rattle.octets.specs.Octets.{octet, part, same, member}
+use Rattle.octets.specs.Octets.{octet, slice, same, member}
 use Rattle.octets.specs.Number.{number}
 use Rattle.octets.proofs.Lists.{by-test}
-use Rattle.store.specs.declared.Found.{Found}
-use Rattle.store.specs.declared.Found.the-variants as found
+use Rattle.store.specs.declared.FoundSigner.{FoundSigner}
+use Rattle.store.specs.declared.FoundSigner.the-variants as found
 use Rattle.store.specs.declared.Position.the-variants.{At, Nothing}
 use Rattle.store.specs.Image.{presentNumber}
 use Rattle.store.specs.Records.{recordsFrom, anchorSection, recordsOf}
@@ -23,10 +23,10 @@ use Rattle.store.specs.Signer.{signerFrom}
 use Rattle.store.specs.Parts.{anchorCount, firstRecord, recordEnd, recordAt, recordPlace, infoIn, identifierIn, numberIn}
 use Rattle.store.specs.Parts.{nameEnd, nameAt, namesFrom, namesSize, firstFrom, infosFrom}
 
--- k octets at place p, and what is behind them
+-- k octets at place p, and what is after them
 
 module _ (s : List ℕ) (p k : ℕ) where
-  pub cut-take : take k (drop p s) ≡ part s p (min (p + k) (length s))
+  pub cut-take : take k (drop p s) ≡ slice s p (min (p + k) (length s))
   cut-take =
       by-test (leb (p + k) (length s))
       (λ t.
@@ -68,8 +68,8 @@ drop-take (suc k) (suc n) (x ∷ l) =
     rw e (drop-take k n l)
 
 -- a part without its first k octets
-pub part-drop : (s : List ℕ) (a e k : ℕ) → drop k (part s a e) ≡ part s (a + k) e
-part-drop s a e k =
+pub slice-drop : (s : List ℕ) (a e k : ℕ) → drop k (slice s a e) ≡ slice s (a + k) e
+slice-drop s a e k =
     let q : e - a - k ≡ e - (a + k) = omega arith in
     drop-take k (e - a) (drop a s) ∙ ap₂ take q (drop-drop k a s)
 
@@ -149,7 +149,7 @@ sizes-turn s q left h =
     let n : namesSize left (drop q s) ≡ 1 + octet (drop q s) 0 + namesSize (left - 1) (drop (1 + octet (drop q s) 0) (drop q s)) = ap (λ (i : ℕ). namesSize i (drop q s)) e in
     rw j (omega (arith, m, n, o))
 
--- what stands behind them does not count
+-- what stands after them does not count
 module _ (n x : ℕ) (s : List ℕ) where
   names-first : namesFrom (suc n) (x ∷ s) ≡ take x s ∷ namesFrom n (drop x s)
   unfolding namesFrom
@@ -172,15 +172,15 @@ names-cut (suc n) (x ∷ s) =
     ∙ sym (names-first n x s)
 
 -- the section of communities that begins with its count
-pub names-part : (s : List ℕ) (p : ℕ) {section names : List ℕ} {count end : ℕ} → section ≡ drop p s → names ≡ drop 1 section → count ≡ octet section 0
+pub names-slice : (s : List ℕ) (p : ℕ) {section names : List ℕ} {count end : ℕ} → section ≡ drop p s → names ≡ drop 1 section → count ≡ octet section 0
     → end ≡ min (namesSize count names) (length names)
-    → part names 0 end ≡ take (namesSize (octet s p) (drop (p + 1) s)) (drop (p + 1) s)
-names-part s p {section} {names} {count} {end} e f g h =
+    → slice names 0 end ≡ take (namesSize (octet s p) (drop (p + 1) s)) (drop (p + 1) s)
+names-slice s p {section} {names} {count} {end} e f g h =
     let n : names ≡ drop (p + 1) s = f ∙ ap (drop 1) e ∙ drop-drop 1 p s in
     let c : count ≡ octet s p = g ∙ ap (λ (b : List ℕ). octet b 0) e ∙ first-octet s p in
     let k = namesSize count names in
     let z : 0 + k ≡ k = omega arith in
-    ap (part names 0) (h ∙ ap (λ (m : ℕ). min m (length names)) (sym z)) ∙ sym (cut-take names 0 k) ∙ ap₂ (λ (i : ℕ) (b : List ℕ). take (namesSize i b) b) c n
+    ap (slice names 0) (h ∙ ap (λ (m : ℕ). min m (length names)) (sym z)) ∙ sym (cut-take names 0 k) ∙ ap₂ (λ (i : ℕ) (b : List ℕ). take (namesSize i b) b) c n
 
 -- one turn of a search among names
 
@@ -241,11 +241,11 @@ module _ (test : List ℕ → Bool) (s : List ℕ) (q i n : ℕ) where
 -- one turn of the search for the signer
 
 -- what is answered where no anchor further on is the signer
-abbrev pub missed : Bool → Found
+abbrev pub missed : Bool → FoundSigner
 missed true = found.Unverified
 missed false = found.Unknown
 
-module _ (i : ℕ) (k : List ℕ) (ids : List (List ℕ)) (verdict wanted : List ℕ) (m : Found) where
+module _ (i : ℕ) (k : List ℕ) (ids : List (List ℕ)) (verdict wanted : List ℕ) (m : FoundSigner) where
   pub signer-here : same k wanted ≡ true → eqb (octet verdict i) 1 ≡ true → signerFrom i (k ∷ ids) verdict wanted m ≡ found.At i
   unfolding signerFrom
   signer-here e f = rw (e, f, signerFrom)
@@ -260,8 +260,8 @@ module _ (i : ℕ) (k : List ℕ) (ids : List (List ℕ)) (verdict wanted : List
   signer-other e = rw (e, signerFrom)
 
 -- the same over the records left at place p
-module _ (s : List ℕ) (p left i : ℕ) (verdict wanted : List ℕ) (m : Found) where
-  abbrev pub signerLeft : ℕ → ℕ → ℕ → Found → Found
+module _ (s : List ℕ) (p left i : ℕ) (verdict wanted : List ℕ) (m : FoundSigner) where
+  abbrev pub signerLeft : ℕ → ℕ → ℕ → FoundSigner → FoundSigner
   signerLeft p left i m = signerFrom i (map identifierIn (recordsFrom left (drop p s))) verdict wanted m
 
   abbrev here : List ℕ

@@ -5,13 +5,13 @@ use mathlib.Core.List.{List, [], _∷_, _++_, map, flatMap}
 use mathlib.Core.Option.{Option, none, some, Option·elim}
 use lib.ListN.{length, take, drop}
 use lib.Dec.{leb, eqb}
-use Rattle.octets.specs.Limits.{maxAnchors, maxCommunities, maxName, maxAnchorOctets, maxNumber}
+use Rattle.octets.specs.Limits.{maxAnchors, maxCommunities, maxNameOctets, maxAnchorOctets, maxNumber}
 use Rattle.octets.specs.Lists.{allOf}
 use Rattle.octets.specs.Octets.{distinct}
 use Rattle.octets.specs.Number.{number, bigEndian}
 use Rattle.der.specs.Contents.{oidOk}
 use Rattle.anchor.specs.Judge.{storable}
-use Rattle.store.specs.Store.{Device, Anchor, Store, anchors, keyOf}
+use Rattle.store.specs.Store.{Device, Anchor, Store, anchors, publicKeyOf}
 
 -- Writing
 
@@ -42,7 +42,7 @@ encode σ =
     encodeSection encodeDevice (σ .device ∷ [])
     ++ (encodeSection encodeAnchor (anchors σ) ++ encodeSection encodeName (σ .communities))
 
--- Reading: what stands first in the octets, and the octets behind it
+-- Reading: what stands first in the octets, and the octets after it
 
 abbrev pub Reader : Type 0 → Type 0
 Reader A = List ℕ → Option (A × List ℕ)
@@ -83,8 +83,8 @@ readSized width most = do
 -- "hwType length (1 octet, 1 to 32), OID contents, serial length (1 octet, 1 to 32), serial"
 unfoldable pub readDevice : Reader Device
 readDevice = do
-  hwType ← readSized 1 maxName
-  serial ← readSized 1 maxName
+  hwType ← readSized 1 maxNameOctets
+  serial ← readSized 1 maxNameOctets
   provided (oidOk hwType) (found (record { hwType = hwType; serial = serial }))
 
 -- "number present (0 or 1), number (8 octets, at most 9223372036854775807, zero if absent)"
@@ -105,7 +105,7 @@ readAnchor = do
 -- "length (1 octet, 1 to 32), OID contents"
 unfoldable pub readCommunity : Reader (List ℕ)
 readCommunity = do
-  o ← readSized 1 maxName
+  o ← readSized 1 maxNameOctets
   provided (oidOk o) (found o)
 
 module _ {A : Type 0} where
@@ -128,7 +128,7 @@ readAnchorSection = do
   count ← readNumber 1
   apex ← provided (leb 1 count && leb count maxAnchors) readAnchor
   others ← readTimes (count - 1) readAnchor
-  provided (distinct (map keyOf (apex ∷ others))) (found (apex, others))
+  provided (distinct (map publicKeyOf (apex ∷ others))) (found (apex, others))
 
 -- Communities, count 0 to 16; no two equal
 unfoldable pub readCommunitySection : Reader (List (List ℕ))
@@ -155,7 +155,7 @@ decode image = alone (readStore image)
 
 -- well-formed, of a store: what every store of a well-formed image has
 unfoldable pub nameOk : List ℕ → Bool
-nameOk o = leb 1 (length o) && leb (length o) maxName
+nameOk o = leb 1 (length o) && leb (length o) maxNameOctets
 
 unfoldable pub anchorOk : Anchor → Bool
 anchorOk a = Option·elim (a .number) true (λ n. leb n maxNumber) && storable (a .info)
@@ -163,5 +163,5 @@ anchorOk a = Option·elim (a .number) true (λ n. leb n maxNumber) && storable (
 unfoldable pub wellFormed : Store → Bool
 wellFormed σ =
     nameOk (σ .device .hwType) && oidOk (σ .device .hwType) && nameOk (σ .device .serial)
-    && leb (length (anchors σ)) maxAnchors && allOf anchorOk (anchors σ) && distinct (map keyOf (anchors σ))
+    && leb (length (anchors σ)) maxAnchors && allOf anchorOk (anchors σ) && distinct (map publicKeyOf (anchors σ))
     && leb (length (σ .communities)) maxCommunities && allOf (λ c. nameOk c && oidOk c) (σ .communities) && distinct (σ .communities)

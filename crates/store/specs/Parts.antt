@@ -4,7 +4,7 @@ use mathlib.Core.Bool.{Bool, true, false}
 use mathlib.Core.List.{List, [], _∷_, map}
 use mathlib.Core.Option.{Option, none, some}
 use lib.ListN.{length, take, drop}
-use Rattle.octets.specs.Octets.{octet, part, same}
+use Rattle.octets.specs.Octets.{octet, slice, same}
 use Rattle.octets.specs.Number.{number}
 use Rattle.anchor.specs.Info.{publicKey, keyIdentifier}
 use Rattle.store.specs.declared.Number.{Number}
@@ -17,17 +17,17 @@ use Rattle.store.specs.Store.{Anchor}
 use Rattle.store.specs.Image.{presentNumber}
 use Rattle.store.specs.Records.{recordsFrom}
 
--- Device, count 1: hwType behind its length, serial behind its length
+-- Device, count 1: hwType after its length, serial after its length
 
 unfoldable pub hwTypeIn : List ℕ → List ℕ
-hwTypeIn image = part image 2 (2 + octet image 1)
+hwTypeIn image = slice image 2 (2 + octet image 1)
 
 -- where the serial's length stands
 abbrev pub serialPlace : List ℕ → ℕ
 serialPlace image = 2 + octet image 1
 
 unfoldable pub serialIn : List ℕ → List ℕ
-serialIn image = part image (serialPlace image + 1) (serialPlace image + 1 + octet image (serialPlace image))
+serialIn image = slice image (serialPlace image + 1) (serialPlace image + 1 + octet image (serialPlace image))
 
 -- Anchors: where their count stands, the count, and where the first record stands
 
@@ -45,14 +45,14 @@ unfoldable pub recordEnd : List ℕ → ℕ → ℕ
 recordEnd s p = min (p + (11 + number (take 2 (drop 9 (drop p s))))) (length s)
 
 abbrev pub recordAt : List ℕ → ℕ → List ℕ
-recordAt s p = part s p (recordEnd s p)
+recordAt s p = slice s p (recordEnd s p)
 
 -- where the record stands that is i further than the one at place p
 unfoldable pub recordPlace : List ℕ → ℕ → ℕ → ℕ
 recordPlace s p zero = p
 recordPlace s p (suc i) = recordPlace s (recordEnd s p) i
 
--- where the record with a position stands; behind the last one, the communities' count
+-- where the record with a position stands; after the last one, the communities' count
 abbrev pub placeOf : List ℕ → ℕ → ℕ
 placeOf image i = recordPlace image (firstRecord image) i
 
@@ -83,7 +83,7 @@ abbrev pub numberOf : Number → Option ℕ
 numberOf Absent = none
 numberOf (Is n) = some n
 
--- Communities: where their count stands behind the last record, the count, and they themselves
+-- Communities: where their count stands after the last record, the count, and they themselves
 
 unfoldable pub communityPlace : List ℕ → ℕ
 communityPlace image = placeOf image (anchorCount image)
@@ -96,7 +96,7 @@ unfoldable pub nameEnd : List ℕ → ℕ → ℕ
 nameEnd s p = min (p + 1 + octet s p) (length s)
 
 abbrev pub nameAt : List ℕ → ℕ → List ℕ
-nameAt s p = part s (p + 1) (nameEnd s p)
+nameAt s p = slice s (p + 1) (nameEnd s p)
 
 -- the names at the head of octets, and how many octets they take
 unfoldable pub namesFrom : ℕ → List ℕ → List (List ℕ)
@@ -107,7 +107,7 @@ unfoldable pub namesSize : ℕ → List ℕ → ℕ
 namesSize zero s = 0
 namesSize (suc n) s = 1 + octet s 0 + namesSize n (drop (1 + octet s 0) s)
 
--- the communities' octets, behind their count and up to where the last one ends
+-- the communities' octets, after their count and up to where the last one ends
 unfoldable pub communityOctets : List ℕ → List ℕ
 communityOctets image =
     let names = drop (communityPlace image + 1) image in

@@ -2,15 +2,15 @@
 use Prim.Native.Nat.{ℕ, zero, suc, _+_}
 use mathlib.Core.List.{List, [], _∷_}
 use lib.ListN.{take, drop}
-use Rattle.octets.specs.Octets.{octet, part}
+use Rattle.octets.specs.Octets.{octet, slice}
 use Rattle.octets.specs.Number.{number}
 
 -- "An anchor's record runs from its number present to the end of its TrustAnchorInfo." A record is 1 octet, 8, 2 with the length, and so many.
 unfoldable pub recordsFrom : ℕ → List ℕ → List (List ℕ)
 recordsFrom zero s = []
-recordsFrom (suc n) s = let k = 11 + number (part s 9 11) in take k s ∷ recordsFrom n (drop k s)
+recordsFrom (suc n) s = let k = 11 + number (slice s 9 11) in take k s ∷ recordsFrom n (drop k s)
 
--- behind the device section: its count, hwType behind its length, serial behind its length
+-- after the device section: its count, hwType after its length, serial after its length
 unfoldable pub anchorSection : List ℕ → List ℕ
 anchorSection image = let hwType = octet image 1 in drop (3 + hwType + octet image (2 + hwType)) image
 

@@ -4,12 +4,12 @@ use mathlib.Core.Bool.{true, false}
 use mathlib.Core.List.{List, [], _∷_}
 use lib.Dec.{eqb}
 use Rattle.octets.specs.Octets.{same, octet}
-use Rattle.store.specs.declared.Found.{Found}
-use Rattle.store.specs.declared.Found.the-variants.{At, Unverified, Unknown}
+use Rattle.store.specs.declared.FoundSigner.{FoundSigner}
+use Rattle.store.specs.declared.FoundSigner.the-variants.{At, Unverified, Unknown}
 
 -- the signer's position, where an identifier and a verdict are given for each anchor; without one, whether any anchor has the identifier.
 -- It reads identifiers and verdict alone.
-unfoldable pub signerFrom : ℕ → List (List ℕ) → List ℕ → List ℕ → Found → Found
+unfoldable pub signerFrom : ℕ → List (List ℕ) → List ℕ → List ℕ → FoundSigner → FoundSigner
 signerFrom i [] verdict wanted missed = missed
 signerFrom i (k ∷ ids) verdict wanted missed =
     elim (same k wanted) [
@@ -17,5 +17,5 @@ signerFrom i (k ∷ ids) verdict wanted missed =
       | true ↦ elim (eqb (octet verdict i) 1) [ true ↦ At i | false ↦ signerFrom (suc i) ids verdict wanted Unverified ]
     ]
 
-unfoldable pub signer : List (List ℕ) → List ℕ → List ℕ → Found
+unfoldable pub signer : List (List ℕ) → List ℕ → List ℕ → FoundSigner
 signer ids verdict wanted = signerFrom 0 ids verdict wanted Unknown

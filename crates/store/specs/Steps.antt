@@ -1,12 +1,8 @@
 -- The steps of 01, After acceptance, on a store.
-use Prim.Native.Nat.{ℕ, suc}
+use Prim.Native.Nat.{ℕ}
 use mathlib.Core.List.{List, [], _∷_, _++_}
 use mathlib.Core.Option.{none, some}
-use lib.ListN.{take, drop}
 use Rattle.store.specs.Store.{Anchor, Store}
-
-abbrev pub withApex : Anchor → Store → Store
-withApex a σ = record { device = σ .device; apex = a; others = σ .others; communities = σ .communities }
 
 abbrev pub withOthers : List Anchor → Store → Store
 withOthers l σ = record { device = σ .device; apex = σ .apex; others = l; communities = σ .communities }
@@ -24,7 +20,3 @@ numbered n a = record { number = some n; info = a .info }
 -- add: "appended without a number"
 abbrev pub oneMore : List ℕ → Store → Store
 oneMore info σ = withOthers (σ .others ++ (unnumbered info ∷ [])) σ
-
--- a list without its i-th member: "later anchors move up"
-abbrev pub allBut : {A : Type 0} → ℕ → List A → List A
-allBut i l = take i l ++ drop (suc i) l

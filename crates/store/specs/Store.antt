@@ -24,8 +24,8 @@ pub record Store : Type 0 where
 abbrev pub anchors : Store → List Anchor
 anchors σ = σ .apex ∷ σ .others
 
-abbrev pub keyOf : Anchor → List ℕ
-keyOf a = publicKey (a .info)
+abbrev pub publicKeyOf : Anchor → List ℕ
+publicKeyOf a = publicKey (a .info)
 
 abbrev pub identifierOf : Anchor → List ℕ
 identifierOf a = keyIdentifier (a .info)

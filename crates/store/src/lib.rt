@@ -6,35 +6,14 @@ ghost use mathlib.Core.List.{_∷_, map};
 ghost use lib.ListN.{length, drop};
 ghost use lib.Dec.{eqb};
 ghost use Rattle.octets.specs.Octets.{octet, same, member};
-ghost use Rattle.store.specs.Records.{recordsFrom, recordsOf};
+ghost use Rattle.store.specs.Records.{recordsOf};
 ghost use Rattle.store.specs.Signer.{signer};
-ghost use Rattle.store.specs.Parts.{
-  hwTypeIn,
-  serialIn,
-  anchorPlace,
-  anchorCount,
-  firstRecord,
-  recordEnd,
-  recordAt,
-  placeOf,
-  infoIn,
-  identifierIn,
-  numberIn,
-  numberOf,
-  communityPlace,
-  communityCount,
-  communityOctets,
-  nameEnd,
-  nameAt,
-  namesFrom,
-  namesSize,
-  isSought,
-  firstFrom,
-  infosFrom,
-};
+ghost use Rattle.store.specs.Parts.{hwTypeIn, serialIn, anchorPlace, anchorCount, firstRecord, recordEnd, recordAt, placeOf, infoIn, identifierIn};
+ghost use Rattle.store.specs.Parts.{numberIn, numberOf, communityPlace, communityCount, communityOctets, nameEnd, nameAt, namesFrom, namesSize};
+ghost use Rattle.store.specs.Parts.{isSought, firstFrom, infosFrom};
 
 // The signer among the anchors (01, Answers).
-pub enum Found {
+pub enum FoundSigner {
     // the position of the first anchor with the identifier and verdict 1
     At(usize),
     // none of those that have the identifier has verdict 1
@@ -62,7 +41,7 @@ pub enum Position {
     Nothing,
 }
 
-// The octet at a place, 0 behind the end.
+// The octet at a place, 0 after the end.
 pub fn octet_at(s: &[u8], p: usize) -> usize
     ensures { λ r. ⌜ (r ≡ octet (now (s .entry)) p) × (r < 256) ⌝ }
 {
@@ -73,7 +52,7 @@ pub fn octet_at(s: &[u8], p: usize) -> usize
 }
 
 // The octets from place p on.
-fn behind(s: &[u8], p: usize) -> &[u8]
+fn after(s: &[u8], p: usize) -> &[u8]
     ensures { λ r. ⌜ now r ≡ drop p (now (s .entry)) ⌝ }
 {
     let n = s.len();
@@ -86,14 +65,14 @@ fn behind(s: &[u8], p: usize) -> &[u8]
 pub fn hw_type(image: &[u8]) -> &[u8]
     ensures { λ r. ⌜ now r ≡ hwTypeIn (now (image .entry)) ⌝ }
 {
-    octets::part(image, 2, 2 + octet_at(image, 1))
+    octets::slice(image, 2, 2 + octet_at(image, 1))
 }
 
 pub fn serial(image: &[u8]) -> &[u8]
     ensures { λ r. ⌜ now r ≡ serialIn (now (image .entry)) ⌝ }
 {
     let p = 2 + octet_at(image, 1);
-    octets::part(image, p + 1, p + 1 + octet_at(image, p))
+    octets::slice(image, p + 1, p + 1 + octet_at(image, p))
 }
 
 // Where the anchors' count stands.
@@ -139,10 +118,10 @@ pub fn record_end(s: &[u8], p: usize) -> usize
 pub fn record_at(s: &[u8], p: usize) -> &[u8]
     ensures { λ r. ⌜ now r ≡ recordAt (now (s .entry)) p ⌝ }
 {
-    octets::part(s, p, record_end(s, p))
+    octets::slice(s, p, record_end(s, p))
 }
 
-// Where the record with a position stands; behind the last one, the communities' count.
+// Where the record with a position stands; after the last one, the communities' count.
 pub fn record_place(image: &[u8], position: usize) -> usize
     ensures { λ r. ⌜ r ≡ placeOf (now (image .entry)) position ⌝ }
 {
@@ -159,7 +138,7 @@ pub fn record_place(image: &[u8], position: usize) -> usize
 pub fn info_of(row: &[u8]) -> &[u8]
     ensures { λ r. ⌜ now r ≡ infoIn (now (row .entry)) ⌝ }
 {
-    behind(row, 11)
+    after(row, 11)
 }
 
 pub fn identifier_of(row: &[u8]) -> &[u8]
@@ -190,13 +169,13 @@ pub fn community_count(image: &[u8]) -> usize
     octet_at(image, community_place(image))
 }
 
-// The communities' octets, behind their count and up to where the last one ends.
+// The communities' octets, after their count and up to where the last one ends.
 pub fn community_octets(image: &[u8]) -> &[u8]
     ensures { λ r. ⌜ now r ≡ communityOctets (now (image .entry)) ⌝ }
 {
-    let section = behind(image, community_place(image));
-    let names = behind(section, 1);
-    octets::part(names, 0, names_end(names, octet_at(section, 0)))
+    let section = after(image, community_place(image));
+    let names = after(section, 1);
+    octets::slice(names, 0, names_end(names, octet_at(section, 0)))
 }
 
 // Where the name at place p ends, or the octets do.
@@ -218,7 +197,7 @@ pub fn name_end(s: &[u8], p: usize) -> usize
 pub fn name_at(s: &[u8], p: usize) -> &[u8]
     ensures { λ r. ⌜ now r ≡ nameAt (now (s .entry)) p ⌝ }
 {
-    behind(octets::part(s, p, name_end(s, p)), 1)
+    after(octets::slice(s, p, name_end(s, p)), 1)
 }
 
 // Where the n names at the head of octets end, or the octets do.
@@ -267,11 +246,11 @@ fn is_tagged(key: &[u8], wanted: &[u8]) -> bool
     if octet_at(key, 0) != 0x30 {
         return false;
     }
-    octets::equal(behind(key, 1), behind(wanted, 1))
+    octets::equal(after(key, 1), after(wanted, 1))
 }
 
 // The position of the first of the n records from place p on that is sought.
-pub fn find_from(s: &[u8], p: usize, n: usize, by: Sought, wanted: &[u8]) -> Position
+pub fn find_anchor_from(s: &[u8], p: usize, n: usize, by: Sought, wanted: &[u8]) -> Position
     ensures { λ r. ⌜ r ≡ firstFrom 0 (isSought by (now (wanted .entry))) (infosFrom n (drop p (now (s .entry)))) ⌝ }
 {
     let mut q = p;
@@ -287,10 +266,10 @@ pub fn find_from(s: &[u8], p: usize, n: usize, by: Sought, wanted: &[u8]) -> Pos
 }
 
 // The position of the anchor that is sought.
-pub fn find(image: &[u8], by: Sought, wanted: &[u8]) -> Position
+pub fn find_anchor(image: &[u8], by: Sought, wanted: &[u8]) -> Position
     ensures { λ r. ⌜ r ≡ firstFrom 0 (isSought by (now (wanted .entry))) (map infoIn (recordsOf (now (image .entry)))) ⌝ }
 {
-    find_from(image, first_record(image), anchor_count(image), by, wanted)
+    find_anchor_from(image, first_record(image), anchor_count(image), by, wanted)
 }
 
 // The anchor's verdict is 1.
@@ -301,7 +280,7 @@ fn is_verified(verdict: &[u8], position: usize) -> bool
 }
 
 // The signer: the first anchor with the identifier and verdict 1.
-pub fn find_signer(image: &[u8], verdict: &[u8], wanted: &[u8]) -> Found
+pub fn find_signer(image: &[u8], verdict: &[u8], wanted: &[u8]) -> FoundSigner
     ensures { λ r. ⌜ r ≡ signer (map identifierIn (recordsOf (now (image .entry)))) (now (verdict .entry)) (now (wanted .entry)) ⌝ }
 {
     let mut p = first_record(image);
@@ -320,10 +299,10 @@ pub fn find_signer(image: &[u8], verdict: &[u8], wanted: &[u8]) -> Found
         left -= 1;
     }
     if 0 < left {
-        return Found::At(i);
+        return FoundSigner::At(i);
     }
     if seen {
-        return Found::Unverified;
+        return FoundSigner::Unverified;
     }
-    Found::Unknown
+    FoundSigner::Unknown
 }

@@ -20,13 +20,13 @@ use Rattle.der.proofs.Bools.{on-true, on-false}
 use Rattle.syntax.proofs.Once.{not-zero}
 use Rattle.syntax.proofs.Each.{Every, every-member, each-weaker, then-both, held-true, breaks≢fits}
 
-der-members : (d : ℕ) (s : List ℕ) (e : Element) → e .good ≡ true → constructed (e .tag) ≡ true → der (suc d) s e ≡ each (memberFit d s (e .tag)) (inside s e)
+der-members : (d : ℕ) (s : List ℕ) (e : Element) → e .valid ≡ true → constructed (e .tag) ≡ true → der (suc d) s e ≡ each (memberFit d s (e .tag)) (inside s e)
 der-members d s e g c = let p : suc d - 1 ≡ d = omega arith in rw p at (der-run s e (suc d) (not-zero d) g c)
 
-pub der-good : (d : ℕ) (s : List ℕ) (e : Element) → der d s e ≡ Fits → e .good ≡ true
+pub der-valid : (d : ℕ) (s : List ℕ) (e : Element) → der d s e ≡ Fits → e .valid ≡ true
 unfolding der
-der-good zero s e h = absurd (breaks≢fits h)
-der-good (suc d) s e h = by-test (e .good) (λ g. g) (λ g. absurd (breaks≢fits (sym (der-bad s e (suc d) g) ∙ h)))
+der-valid zero s e h = absurd (breaks≢fits h)
+der-valid (suc d) s e h = by-test (e .valid) (λ g. g) (λ g. absurd (breaks≢fits (sym (der-bad s e (suc d) g) ∙ h)))
 
 -- the members of a constructed element have one level less
 pub inside-der : (d : ℕ) (s : List ℕ) (e : Element) → der (suc d) s e ≡ Fits → constructed (e .tag) ≡ true → Every (λ m. der d s m ≡ Fits) (inside s e)
@@ -34,19 +34,19 @@ inside-der d s e h c =
     every-member (memberFit d s (e .tag)) (λ m. der d s m ≡ Fits)
     (λ former m g f. then-both (der d s m) (held (m .at) (sortedIn (e .tag) s former m)) f .0)
     (inside s e)
-    (sym (der-members d s e (der-good (suc d) s e h) c) ∙ h)
+    (sym (der-members d s e (der-valid (suc d) s e h) c) ∙ h)
 
 -- the contents of any other are as its tag asks
 pub contents-der : (d : ℕ) (s : List ℕ) (e : Element) → der (suc d) s e ≡ Fits → constructed (e .tag) ≡ false → contentsOk (e .tag) (contents s e) ≡ true
 contents-der d s e h c =
-    held-true (e .at) (contentsOk (e .tag) (contents s e)) (sym (der-leaf s e (suc d) (not-zero d) (der-good (suc d) s e h) c) ∙ h)
+    held-true (e .at) (contentsOk (e .tag) (contents s e)) (sym (der-leaf s e (suc d) (not-zero d) (der-valid (suc d) s e h) c) ∙ h)
 
 -- more levels are no worse
 pub deeper : (d : ℕ) (s : List ℕ) (e : Element) → der d s e ≡ Fits → der (suc d) s e ≡ Fits
 unfolding der
 deeper zero s e h = absurd (breaks≢fits h)
 deeper (suc d) s e h =
-    let g = der-good (suc d) s e h in
+    let g = der-valid (suc d) s e h in
     by-test (constructed (e .tag))
     (λ c.
     der-members (suc d) s e g c

@@ -60,10 +60,10 @@ pub alike-if : (b : Bool) (x y u v : Fit) → (b ≡ true → kept x ≡ kept u)
 alike-if true x y u v p q = p refl
 alike-if false x y u v p q = q refl
 
-pub alike-element : {b c : Bool} → b ≡ c → (i j : ℕ) (good : Bool) (x y u v : Fit) → kept x ≡ kept u → (good ≡ true → kept y ≡ kept v)
-    → kept (byElement b i good x y) ≡ kept (byElement c j good u v)
-alike-element {b} {c} e i j good x y u v p q =
-    rw e (alike-if c (elim good [ false ↦ Breaks i | true ↦ y ]) x (elim good [ false ↦ Breaks j | true ↦ v ]) u (λ r. alike-if good y (Breaks i) v (Breaks j) q (λ g. refl)) (λ r. p))
+pub alike-element : {b c : Bool} → b ≡ c → (i j : ℕ) (valid : Bool) (x y u v : Fit) → kept x ≡ kept u → (valid ≡ true → kept y ≡ kept v)
+    → kept (byElement b i valid x y) ≡ kept (byElement c j valid u v)
+alike-element {b} {c} e i j valid x y u v p q =
+    rw e (alike-if c (elim valid [ false ↦ Breaks i | true ↦ y ]) x (elim valid [ false ↦ Breaks j | true ↦ v ]) u (λ r. alike-if valid y (Breaks i) v (Breaks j) q (λ g. refl)) (λ r. p))
 
 pub alike-then : (f g h k : Fit) → kept f ≡ kept h → kept g ≡ kept k → kept (andThen f g) ≡ kept (andThen h k)
 alike-then f g h k p q = kept-then f g ∙ ap₂ _&&_ p q ∙ sym (kept-then h k)
@@ -84,22 +84,22 @@ held-true at b e = sym (kept-held at b) ∙ ap kept e
 
 module _ (judge : Element → Element → Fit) where
   pub kept-turn : (former e : Element) (es : List Element)
-      → kept (eachFrom judge former (e ∷ es)) ≡ (e .good && kept (judge former e)) && kept (eachFrom judge e es)
+      → kept (eachFrom judge former (e ∷ es)) ≡ (e .valid && kept (judge former e)) && kept (eachFrom judge e es)
   unfolding eachFrom
   kept-turn former e es =
-      kept-then (andThen (held (e .at) (e .good)) (judge former e)) (eachFrom judge e es)
+      kept-then (andThen (held (e .at) (e .valid)) (judge former e)) (eachFrom judge e es)
       ∙ ap (λ (b : Bool). b && kept (eachFrom judge e es))
-      (kept-then (held (e .at) (e .good)) (judge former e) ∙ ap (λ (b : Bool). b && kept (judge former e)) (kept-held (e .at) (e .good)))
+      (kept-then (held (e .at) (e .valid)) (judge former e) ∙ ap (λ (b : Bool). b && kept (judge former e)) (kept-held (e .at) (e .valid)))
 
   -- what the judge's answer on an element shows holds of every member
-  module _ (Q : Element → Type 0) (shows : (former e : Element) → e .good ≡ true → judge former e ≡ Fits → Q e) where
+  module _ (Q : Element → Type 0) (shows : (former e : Element) → e .valid ≡ true → judge former e ≡ Fits → Q e) where
     every-from : (former : Element) (es : List Element) → eachFrom judge former es ≡ Fits → Every Q es
     unfolding eachFrom
     every-from former [] h = tt
     every-from former (e ∷ es) h =
-        let two = then-both (andThen (held (e .at) (e .good)) (judge former e)) (eachFrom judge e es) h in
-        let one = then-both (held (e .at) (e .good)) (judge former e) (two .0) in
-        (shows former e (held-true (e .at) (e .good) (one .0)) (one .1), every-from e es (two .1))
+        let two = then-both (andThen (held (e .at) (e .valid)) (judge former e)) (eachFrom judge e es) h in
+        let one = then-both (held (e .at) (e .valid)) (judge former e) (two .0) in
+        (shows former e (held-true (e .at) (e .valid) (one .0)) (one .1), every-from e es (two .1))
 
     pub every-member : (es : List Element) → each judge es ≡ Fits → Every Q es
     unfolding each
@@ -112,8 +112,8 @@ module _ (judge weaker : Element → Element → Fit) (passes : (former e : Elem
   unfolding eachFrom andThen
   weaker-from former [] h = refl
   weaker-from former (e ∷ es) h =
-      let two = then-both (andThen (held (e .at) (e .good)) (judge former e)) (eachFrom judge e es) h in
-      let one = then-both (held (e .at) (e .good)) (judge former e) (two .0) in
+      let two = then-both (andThen (held (e .at) (e .valid)) (judge former e)) (eachFrom judge e es) h in
+      let one = then-both (held (e .at) (e .valid)) (judge former e) (two .0) in
       rw (one .0, passes former e (one .1)) (weaker-from e es (two .1))
 
   pub each-weaker : (es : List Element) → each judge es ≡ Fits → each weaker es ≡ Fits
@@ -122,14 +122,14 @@ module _ (judge weaker : Element → Element → Fit) (passes : (former e : Elem
   each-weaker (e ∷ es) h = weaker-from e (e ∷ es) h
 
 -- Judges that keep alike, on runs of which one is made from the other: f leaves good as it is, and the judges agree on members that have the property.
-module _ (f : Element → Element) (judge other : Element → Element → Fit) (P : Element → Type 0) (good : (e : Element) → f e .good ≡ e .good)
+module _ (f : Element → Element) (judge other : Element → Element → Fit) (P : Element → Type 0) (valid : (e : Element) → f e .valid ≡ e .valid)
     (alike : (former e : Element) → P former → P e → kept (judge (f former) (f e)) ≡ kept (other former e)) where
   alike-from : (former : Element) (es : List Element) → P former → Every P es → kept (eachFrom judge (f former) (map f es)) ≡ kept (eachFrom other former es)
   unfolding eachFrom
   alike-from former [] p h = refl
   alike-from former (e ∷ es) p h =
       kept-turn judge (f former) (f e) (map f es)
-      ∙ ap₂ _&&_ (ap₂ _&&_ (good e) (alike former e p (h .0))) (alike-from e es (h .0) (h .1))
+      ∙ ap₂ _&&_ (ap₂ _&&_ (valid e) (alike former e p (h .0))) (alike-from e es (h .0) (h .1))
       ∙ sym (kept-turn other former e es)
 
   pub each-alike : (es : List Element) → Every P es → kept (each judge (map f es)) ≡ kept (each other es)

@@ -13,7 +13,7 @@ use Rattle.der.specs.declared.Fit.the-variants.{Fits}
 use Rattle.der.specs.Element.{absent, elementAt, elements, withTag}
 use Rattle.der.specs.Fit.{held}
 use Rattle.der.proofs.Fits.{then-fits, held-fits}
-use Rattle.der.proofs.Elements.{good-within, with-tag-end, with-tag-found, with-tag-turn}
+use Rattle.der.proofs.Elements.{valid-within, with-tag-end, with-tag-found, with-tag-turn}
 use Rattle.syntax.specs.Grammar.{Syntax, free, end, obeys, optional, one, anyOptional, many, fit}
 use Rattle.syntax.proofs.Match.{First, met, optional-here, one-turn, optional-fits, one-fits, end-fits, obeys-fits, many-fits}
 use Rattle.syntax.proofs.Each.{Every, every-weaken, every-both}
@@ -29,7 +29,7 @@ lacks t (one g next) = lacks t g && lacks t next
 lacks t (anyOptional next) = false
 lacks t (many g) = false
 
--- where a syntax has its first field with a tag: it must be there, with these contents and this behind it; it may be there; or it is not told
+-- where a syntax has its first field with a tag: it must be there, with these contents and this after it; it may be there; or it is not told
 pub data Place : Type 0 where
   must : (g next : Syntax) → Place
   may : (g : Syntax) → Place
@@ -88,18 +88,18 @@ pub record Found (t : ℕ) (g : Syntax) (s : List ℕ) (at stop : ℕ) (e : Elem
 -- that e is what a place says
 abbrev pub Placed : ℕ → List ℕ → ℕ → ℕ → ℕ → Element → Place → Type 0
 Placed t s at stop outer e (must g next) = Found t g s at stop e × (fit next s (e .stop) stop outer ≡ Fits)
-Placed t s at stop outer e (may g) = (e .good ≡ true → Found t g s at stop e) × (e .good ≡ false → e ≡ absent 0)
+Placed t s at stop outer e (may g) = (e .valid ≡ true → Found t g s at stop e) × (e .valid ≡ false → e ≡ absent 0)
 Placed t s at stop outer e nowhere = e ≡ absent 0
 Placed t s at stop outer e untold = Unit {0}
 
-absent-bad : {e : Element} → e ≡ absent 0 → e .good ≡ true → ⊥
-absent-bad q g = false≢true (sym (ap (λ (x : Element). x .good) q) ∙ g)
+absent-bad : {e : Element} → e ≡ absent 0 → e .valid ≡ true → ⊥
+absent-bad q g = false≢true (sym (ap (λ (x : Element). x .valid) q) ∙ g)
 
 -- an element that by itself is as a syntax of one tag says
-module _ (s : List ℕ) (at stop outer : ℕ) {e : Element} (q : e ≡ elementAt s at stop) (b : e .good ≡ true) where
+module _ (s : List ℕ) (at stop outer : ℕ) {e : Element} (q : e ≡ elementAt s at stop) (b : e .valid ≡ true) where
   pub chosen : (t : ℕ) (g : Syntax) → fit (optional t g end) s at (e .stop) outer ≡ Fits → Found t g s at stop e
   chosen t g h =
-      let w = good-within s at stop q b in
+      let w = valid-within s at stop q b in
       optional-fits s at (e .stop) outer (sym (again s at stop q b)) t g end h
       (λ m f. absurd (omega arith))
       (λ m k n f. absurd (omega (arith, end-fits s at (e .stop) outer f)))
@@ -115,11 +115,11 @@ module _ (t : ℕ) (s : List ℕ) where
   wider at to stop outer e untold l h = tt
 
   -- an element without the tag
-  unlike : (at stop : ℕ) → elementAt s at stop .good ≡ true → withTag t (elements s at (elementAt s at stop .stop)) ≡ absent 0
+  unlike : (at stop : ℕ) → elementAt s at stop .valid ≡ true → withTag t (elements s at (elementAt s at stop .stop)) ≡ absent 0
       → elementAt s at stop .tag ≡ t → ⊥
   unlike at stop b q n =
       let e = elementAt s at stop in
-      let w = good-within s at stop refl b in
+      let w = valid-within s at stop refl b in
       absent-bad (sym (with-tag-found t s at (e .stop) (sym (again s at stop refl b)) (omega arith) n) ∙ q) b
 
   only-placed : (g next : Syntax) (at stop outer : ℕ) → First s at stop outer refl g next
@@ -133,8 +133,8 @@ module _ (t : ℕ) (s : List ℕ) where
       by-test (eqb u t)
       (λ n.
       let q = eqb-true u t n in
-      let c = chosen s at stop outer refl (f .good) u g (f .alone) in
-      let w = good-within s at stop refl (f .good) in
+      let c = chosen s at stop outer refl (f .valid) u g (f .alone) in
+      let w = valid-within s at stop refl (f .valid) in
       rw (n, onlyField, with-tag-found t s at stop refl (omega arith) (c .tag ∙ q)) (rw q at c, f .rest))
       (λ n. rw (n, onlyField) tt)
   only-placed (optional u g (obeys r h)) next at stop outer f = tt
@@ -167,7 +167,7 @@ module _ (t : ℕ) (s : List ℕ) where
       (λ m b k f. none (rw (lacks-nowhere t next l) at (placed next at stop outer f)))
       (λ m b k f r.
       let q = eqb-true (e .tag) u k ∙ eqb-true u t n in
-      let w = good-within s at stop refl b in
+      let w = valid-within s at stop refl b in
       rw (with-tag-found t s at stop refl m q) (
         λ _. record { own = own s at stop refl b; tag = q; from = omega arith; ends = w .ends; fits = rw (w .here) f },
         λ x. absurd (true≢false (sym b ∙ x)),
@@ -179,7 +179,7 @@ module _ (t : ℕ) (s : List ℕ) where
       (λ m f. placed next at stop outer f)
       (λ m b k f. placed next at stop outer f)
       (λ m b k f r.
-      let w = good-within s at stop refl b in
+      let w = valid-within s at stop refl b in
       rw (with-tag-turn t s at stop refl b (λ x. eqb-false u t n (sym (eqb-true (e .tag) u k) ∙ x)))
       (wider at (e .stop) stop outer (withTag t (elements s (e .stop) stop)) (fieldIn t next) (omega arith) (placed next (e .stop) stop outer r)))))
   placed (one g next) at stop outer h =
@@ -187,8 +187,8 @@ module _ (t : ℕ) (s : List ℕ) where
       let f = one-fits s at stop outer refl g next h in
       by-test (lacks t g)
       (λ l.
-      let w = good-within s at stop refl (f .good) in
-      rw (l, fieldIn, with-tag-turn t s at stop refl (f .good) (unlike at stop (f .good) (rw (lacks-nowhere t g l) at (placed g at (e .stop) outer (f .alone)))))
+      let w = valid-within s at stop refl (f .valid) in
+      rw (l, fieldIn, with-tag-turn t s at stop refl (f .valid) (unlike at stop (f .valid) (rw (lacks-nowhere t g l) at (placed g at (e .stop) outer (f .alone)))))
       (wider at (e .stop) stop outer (withTag t (elements s (e .stop) stop)) (fieldIn t next) (omega arith) (placed next (e .stop) stop outer (f .rest))))
       (λ l. rw (l, fieldIn) (only-placed g next at stop outer f))
   placed (anyOptional next) at stop outer h = tt
@@ -198,7 +198,7 @@ module _ (t : ℕ) (s : List ℕ) where
 pub each-found : (t : ℕ) (g : Syntax) (s : List ℕ) (at stop outer : ℕ) → fit (many (optional t g end)) s at stop outer ≡ Fits
     → Every (Found t g s at stop) (elements s at stop)
 each-found t g s at stop outer h =
-    let P : Element → Type 0 = λ m. (m .good ≡ true) × (fit (optional t g end) s (m .at) (m .stop) outer ≡ Fits) in
+    let P : Element → Type 0 = λ m. (m .valid ≡ true) × (fit (optional t g end) s (m .at) (m .stop) outer ≡ Fits) in
     every-weaken (λ m. Member s at stop m × P m) (Found t g s at stop)
     (λ m k.
     let c = chosen s (m .at) (m .stop) outer (k .0 .own (k .1 .0) .is) (k .1 .0) t g (k .1 .1) in
@@ -212,7 +212,7 @@ pub as-only : (t : ℕ) (g : Syntax) (s : List ℕ) (at stop outer : ℕ) (e : E
 unfolding fit
 as-only t g s at stop outer e f =
     let nothing : held (e .stop) (leb (e .stop) (e .stop)) ≡ Fits = held-fits (e .stop) (le-leb (e .stop) (e .stop) (omega arith)) in
-    let m = met (f .own .is) (f .own .good) in
+    let m = met (f .own .is) (f .own .valid) in
     one-turn m outer (optional t g end) end
     ∙ then-fits _
     (optional-here m outer t g end (f .tag) ∙ then-fits _ (f .fits) ∙ nothing)

@@ -6,7 +6,7 @@ use mathlib.Core.List.{List}
 use mathlib.Core.Path.{_≡_, sym, _∙_}
 use lib.Dec.{ltb, leb, eqb}
 use borrow.Author.Tests.{ltb-true, ltb-false, lt-ltb, le-ltb, leb-true, eq-eqb, ne-eqb, eqb-true, eqb-false}
-use Rattle.octets.specs.Octets.{part}
+use Rattle.octets.specs.Octets.{slice}
 use Rattle.octets.proofs.Lists.{by-test}
 use Rattle.der.specs.declared.Element.{Element}
 use Rattle.der.specs.declared.Fit.{Fit}
@@ -14,7 +14,7 @@ use Rattle.der.specs.declared.Fit.the-variants.{Fits, Breaks}
 use Rattle.der.specs.Element.{elementAt, elements}
 use Rattle.der.specs.Fit.{andThen, held}
 use Rattle.syntax.specs.Grammar.{Rule, obeyed, Syntax, end, obeys, optional, one, anyOptional, many, byElement, fit}
-use Rattle.der.proofs.Elements.{good-within}
+use Rattle.der.proofs.Elements.{valid-within}
 use Rattle.der.proofs.Bools.{on-true, on-false}
 use Rattle.syntax.proofs.Window.{again}
 use Rattle.syntax.proofs.Each.{Every, every-member, then-both, held-true, breaks≢fits}
@@ -23,14 +23,14 @@ use Rattle.syntax.proofs.Each.{Every, every-member, then-both, held-tru
 pub record Met (s : List ℕ) (at stop : ℕ) (e : Element) : Type 0 where
   pub is : e ≡ elementAt s at stop
   pub room : at < stop
-  pub good : e .good ≡ true
+  pub valid : e .valid ≡ true
 
-pub met : {s : List ℕ} {at stop : ℕ} {e : Element} → e ≡ elementAt s at stop → e .good ≡ true → Met s at stop e
-met {s} {at} {stop} q g = let w = good-within s at stop q g in record { is = q; room = omega arith; good = g }
+pub met : {s : List ℕ} {at stop : ℕ} {e : Element} → e ≡ elementAt s at stop → e .valid ≡ true → Met s at stop e
+met {s} {at} {stop} q g = let w = valid-within s at stop q g in record { is = q; room = omega arith; valid = g }
 
 -- it stands in the window of its own octets too
 pub own-window : {s : List ℕ} {at stop : ℕ} {e : Element} → Met s at stop e → Met s at (e .stop) e
-own-window {s} {at} {stop} m = met (sym (again s at stop (m .is) (m .good))) (m .good)
+own-window {s} {at} {stop} m = met (sym (again s at stop (m .is) (m .valid))) (m .valid)
 
 -- the three ways: no element is left, what stands there is none, one stands there
 
@@ -48,9 +48,9 @@ module _ (s : List ℕ) (at stop outer : ℕ) where
     unfolding fit
     any-end next = on-false (ltb at stop) _ _ (le-ltb at stop l)
 
-  module _ {e : Element} (q : e ≡ elementAt s at stop) (l : at < stop) (b : e .good ≡ false) where
-    at-broken : (x y : Fit) → byElement (ltb at stop) at (elementAt s at stop .good) x y ≡ Breaks at
-    at-broken x y = on-true (ltb at stop) _ x (lt-ltb at stop l) ∙ on-false (elementAt s at stop .good) y (Breaks at) (rw q at b)
+  module _ {e : Element} (q : e ≡ elementAt s at stop) (l : at < stop) (b : e .valid ≡ false) where
+    at-broken : (x y : Fit) → byElement (ltb at stop) at (elementAt s at stop .valid) x y ≡ Breaks at
+    at-broken x y = on-true (ltb at stop) _ x (lt-ltb at stop l) ∙ on-false (elementAt s at stop .valid) y (Breaks at) (rw q at b)
 
     pub optional-broken : (t : ℕ) (g next : Syntax) → fit (optional t g next) s at stop outer ≡ Breaks at
     unfolding fit
@@ -65,8 +65,8 @@ module _ (s : List ℕ) (at stop outer : ℕ) where
     any-broken next = at-broken _ _
 
 module _ {s : List ℕ} {at stop : ℕ} {e : Element} (m : Met s at stop e) where
-  pub at-met : (x y : Fit) → byElement (ltb at stop) at (elementAt s at stop .good) x y ≡ y
-  at-met x y = on-true (ltb at stop) _ x (lt-ltb at stop (m .room)) ∙ on-true (elementAt s at stop .good) y (Breaks at) (rw (m .is) at (m .good))
+  pub at-met : (x y : Fit) → byElement (ltb at stop) at (elementAt s at stop .valid) x y ≡ y
+  at-met x y = on-true (ltb at stop) _ x (lt-ltb at stop (m .room)) ∙ on-true (elementAt s at stop .valid) y (Breaks at) (rw (m .is) at (m .valid))
 
   module _ (outer t : ℕ) (g next : Syntax) where
     pub optional-other : (e .tag ≡ t → ⊥) → fit (optional t g next) s at stop outer ≡ fit next s at stop outer
@@ -91,14 +91,14 @@ module _ {s : List ℕ} {at stop : ℕ} {e : Element} (m : Met s at stop e) wher
 module _ (s : List ℕ) (at stop outer : ℕ) {e : Element} (q : e ≡ elementAt s at stop) where
   pub optional-fits : {P : Type 0} (t : ℕ) (g next : Syntax) → fit (optional t g next) s at stop outer ≡ Fits
       → (stop ≤ at → fit next s at stop outer ≡ Fits → P)
-      → (at < stop → e .good ≡ true → eqb (e .tag) t ≡ false → fit next s at stop outer ≡ Fits → P)
-      → (at < stop → e .good ≡ true → eqb (e .tag) t ≡ true → fit g s (e .start) (e .stop) at ≡ Fits → fit next s (e .stop) stop outer ≡ Fits → P)
+      → (at < stop → e .valid ≡ true → eqb (e .tag) t ≡ false → fit next s at stop outer ≡ Fits → P)
+      → (at < stop → e .valid ≡ true → eqb (e .tag) t ≡ true → fit g s (e .start) (e .stop) at ≡ Fits → fit next s (e .stop) stop outer ≡ Fits → P)
       → P
   optional-fits t g next h none other here =
       by-test (ltb at stop)
       (λ r.
       let l = ltb-true at stop r in
-      by-test (e .good)
+      by-test (e .valid)
       (λ b.
       let m = met q b in
       by-test (eqb (e .tag) t)
@@ -110,7 +110,7 @@ module _ (s : List ℕ) (at stop outer : ℕ) {e : Element} (q : e ≡ elementAt
       (λ r. let l = ltb-false at stop r in none l (sym (optional-end s at stop outer l t g next) ∙ h))
 
   pub record First (g next : Syntax) : Type 0 where
-    pub good : e .good ≡ true
+    pub valid : e .valid ≡ true
     pub alone : fit g s at (e .stop) outer ≡ Fits
     pub rest : fit next s (e .stop) stop outer ≡ Fits
 
@@ -118,10 +118,10 @@ module _ (s : List ℕ) (at stop outer : ℕ) {e : Element} (q : e ≡ elementAt
   one-fits g next h =
       by-test (ltb at stop)
       (λ r.
-      by-test (e .good)
+      by-test (e .valid)
       (λ b.
       let two = then-both (fit g s at (e .stop) outer) (fit next s (e .stop) stop outer) (sym (one-turn (met q b) outer g next) ∙ h) in
-      record { good = b; alone = two .0; rest = two .1 })
+      record { valid = b; alone = two .0; rest = two .1 })
       (λ b. absurd (breaks≢fits (sym (one-broken s at stop outer q (ltb-true at stop r) b g next) ∙ h))))
       (λ r. absurd (breaks≢fits (sym (one-end s at stop outer (ltb-false at stop r) g next) ∙ h)))
 
@@ -130,17 +130,17 @@ module _ (s : List ℕ) (at stop outer : ℕ) where
   unfolding fit
   end-fits h = leb-true stop at (held-true at (leb stop at) h)
 
-  pub obeys-fits : (r : Rule) (g : Syntax) → fit (obeys r g) s at stop outer ≡ Fits → (fit g s at stop outer ≡ Fits) × (obeyed r (part s at stop) ≡ true)
+  pub obeys-fits : (r : Rule) (g : Syntax) → fit (obeys r g) s at stop outer ≡ Fits → (fit g s at stop outer ≡ Fits) × (obeyed r (slice s at stop) ≡ true)
   unfolding fit
   obeys-fits r g h =
-      let two = then-both (fit g s at stop outer) (held outer (obeyed r (part s at stop))) h in
-      (two .0, held-true outer (obeyed r (part s at stop)) (two .1))
+      let two = then-both (fit g s at stop outer) (held outer (obeyed r (slice s at stop))) h in
+      (two .0, held-true outer (obeyed r (slice s at stop)) (two .1))
 
   pub many-fits : (g : Syntax) → fit (many g) s at stop outer ≡ Fits
-      → Every (λ m. (m .good ≡ true) × (fit g s (m .at) (m .stop) outer ≡ Fits)) (elements s at stop)
+      → Every (λ m. (m .valid ≡ true) × (fit g s (m .at) (m .stop) outer ≡ Fits)) (elements s at stop)
   unfolding fit
   many-fits g h =
-      every-member (λ former m. fit g s (m .at) (m .stop) outer) (λ m. (m .good ≡ true) × (fit g s (m .at) (m .stop) outer ≡ Fits))
+      every-member (λ former m. fit g s (m .at) (m .stop) outer) (λ m. (m .valid ≡ true) × (fit g s (m .at) (m .stop) outer ≡ Fits))
       (λ former m b f. (b, f))
       (elements s at stop)
       h

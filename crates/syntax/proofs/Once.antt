@@ -7,15 +7,15 @@ use mathlib.Core.Path.{_≡_, refl, sym, ap, _∙_}
 use lib.ListN.{length}
 use lib.Dec.{leb, eqb}
 use borrow.Author.Tests.{le-leb, eqb-false, not-true}
-use Rattle.octets.specs.Octets.{part}
+use Rattle.octets.specs.Octets.{slice}
 use Rattle.octets.proofs.Lists.{both}
-use Rattle.octets.proofs.Parts.{length-part}
+use Rattle.octets.proofs.Parts.{length-slice}
 use Rattle.der.specs.declared.Element.{Element}
 use Rattle.der.specs.Element.{elementAt, contents, constructed}
 use Rattle.der.specs.Fit.{held, kept}
 use Rattle.der.specs.Contents.{oidOk, contentsOk}
 use Rattle.der.specs.Check.{der}
-use Rattle.der.proofs.Elements.{Within, good-within}
+use Rattle.der.proofs.Elements.{InWindow, valid-within}
 use Rattle.der.proofs.Checks.{der-leaf}
 use Rattle.syntax.specs.Grammar.{Rule, notEmpty, obeyed, Syntax, free, end, obeys, optional, many, tagged, required, fit}
 use Rattle.syntax.specs.Whole.{derRun}
@@ -27,8 +27,8 @@ use Rattle.syntax.specs.Once.{IfYes, Tagged, TypeAt, Conforms}
 
 -- what a path promises where it says yes, and where it says no
 
-pub said : {P : Type 0} {b : Bool} → P → IfYes b P
-said p = record { holds = λ e. p }
+pub yes-with : {P : Type 0} {b : Bool} → P → IfYes b P
+yes-with p = record { holds = λ e. p }
 
 pub no-by : {P : Type 0} {b : Bool} → b ≡ false → IfYes b P
 no-by h = record { holds = λ e. absurd (true≢false (sym e ∙ h)) }
@@ -54,21 +54,21 @@ kept-end : (s : List ℕ) (at stop outer : ℕ) → stop ≤ at → kept (fit en
 unfolding fit
 kept-end s at stop outer l = kept-held at (leb stop at) ∙ le-leb stop at l
 
-pub kept-obeys : {g : Syntax} {s : List ℕ} {at stop : ℕ} (r : Rule) → Kept g s at stop → obeyed r (part s at stop) ≡ true → Kept (obeys r g) s at stop
+pub kept-obeys : {g : Syntax} {s : List ℕ} {at stop : ℕ} (r : Rule) → Kept g s at stop → obeyed r (slice s at stop) ≡ true → Kept (obeys r g) s at stop
 unfolding fit
 kept-obeys {g} {s} {at} {stop} r f h =
     record {
       fits =
           λ outer.
-          kept-then (fit g s at stop outer) (held outer (obeyed r (part s at stop))) ∙ both (f .fits outer) (kept-held outer (obeyed r (part s at stop)) ∙ h);
+          kept-then (fit g s at stop outer) (held outer (obeyed r (slice s at stop))) ∙ both (f .fits outer) (kept-held outer (obeyed r (slice s at stop)) ∙ h);
     }
 
 pub kept-some : {g : Syntax} {s : List ℕ} {at stop : ℕ} → Kept g s at stop → at < stop → stop ≤ length s → Kept (obeys notEmpty g) s at stop
 unfolding obeyed
 kept-some {g} {s} {at} {stop} f l m =
     let n : at + (stop - at) ≤ length s = omega arith in
-    let e = length-part s at (stop - at) n in
-    kept-obeys notEmpty f (le-leb 1 (length (part s at stop)) (omega arith))
+    let e = length-slice s at (stop - at) n in
+    kept-obeys notEmpty f (le-leb 1 (length (slice s at stop)) (omega arith))
 
 -- at the end of a window
 
@@ -84,11 +84,11 @@ module _ (d : ℕ) (s : List ℕ) (at stop : ℕ) (l : stop ≤ at) where
 
 -- an element with a tag in a window
 module _ {s : List ℕ} {at stop t : ℕ} {e : Element} (x : Tagged s at stop t e) where
-  pub within : Within s at stop e
-  within = good-within s at stop (x .is) (x .good)
+  pub within : InWindow s at stop e
+  within = valid-within s at stop (x .is) (x .valid)
 
   stands : Met s at stop e
-  stands = met (x .is) (x .good)
+  stands = met (x .is) (x .valid)
 
   pub past : {d u : ℕ} {next : Syntax} (g : Syntax) → (t ≡ u → ⊥) → Conforms d next s at stop → Conforms d (optional u g next) s at stop
   past {d} {u} {next} g n h =
@@ -100,15 +100,15 @@ module _ {s : List ℕ} {at stop t : ℕ} {e : Element} (x : Tagged s at stop t 
       let two = and-eq-true-iff (constructed t) (not (eqb t 49)) .0 n in
       let p : suc d - 1 ≡ d = omega arith in
       let m : e .tag ≡ 49 → ⊥ = λ i. eqb-false t 49 (not-true _ (two .1)) (sym (x .tag) ∙ i) in
-      sym (run-inside (suc d) s e (x .good) m (not-zero d) (rw (x .tag) (two .0))) ∙ rw p (h .run)
+      sym (run-inside (suc d) s e (x .valid) m (not-zero d) (rw (x .tag) (two .0))) ∙ rw p (h .run)
 
   -- contents that keep the rule of their tag
   pub leaf : (d : ℕ) → (d ≡ 0 → ⊥) → constructed t ≡ false → contentsOk t (contents s e) ≡ true → kept (der d s e) ≡ true
   leaf d z c h =
-      ap kept (der-leaf s e d z (x .good) (rw (x .tag) c)) ∙ kept-held (e .at) (contentsOk (e .tag) (contents s e)) ∙ rw (x .tag) h
+      ap kept (der-leaf s e d z (x .valid) (rw (x .tag) c)) ∙ kept-held (e .at) (contentsOk (e .tag) (contents s e)) ∙ rw (x .tag) h
 
   running : (d : ℕ) → kept (der d s e) ≡ true → derRun d s (e .stop) stop ≡ true → derRun d s at stop ≡ true
-  running d k h = run-turn d s at stop (x .is) (x .good) ∙ both k h
+  running d k h = run-turn d s at stop (x .is) (x .valid) ∙ both k h
 
   -- it is DER, and a syntax fits its contents
   module _ {g : Syntax} (f : Kept g s (e .start) (e .stop)) where
@@ -145,7 +145,7 @@ module _ {s : List ℕ} {at stop t : ℕ} {e : Element} (x : Tagged s at stop t 
             run = running d k (h .run);
             fits =
                 λ outer.
-                ap kept (many-turn (tagged t g) s at stop outer (x .is) (x .good))
+                ap kept (many-turn (tagged t g) s at stop outer (x .is) (x .valid))
                 ∙ kept-then (fit (tagged t g) s (e .at) (e .stop) outer) (fit (many (tagged t g)) s (e .stop) stop outer)
                 ∙ both (ap (λ (i : ℕ). kept (fit (tagged t g) s i (e .stop) outer)) (within .here) ∙ alone outer) (h .fits outer);
           }
@@ -157,11 +157,11 @@ type-der d z h = leaf (h .tagged) d z refl (h .oid)
 
 -- an element that was read, if it has the tag; and if it is an OID
 module _ (s : List ℕ) {at stop : ℕ} {e : Element} where
-  pub expected : {t : ℕ} → e ≡ elementAt s at stop → e .tag ≡ t → IfYes (e .good) (Tagged s at stop t e)
-  expected q n = record { holds = λ b. record { is = q; good = b; tag = n } }
+  pub expected : {t : ℕ} → e ≡ elementAt s at stop → e .tag ≡ t → IfYes (e .valid) (Tagged s at stop t e)
+  expected q n = record { holds = λ b. record { is = q; valid = b; tag = n } }
 
-  pub type-read : IfYes (e .good) (Tagged s at stop 0x06 e) → {k : List ℕ} {r : Bool} → k ≡ contents s e → r ≡ oidOk k → r ≡ true
-      → IfYes (e .good) (TypeAt s at stop e)
+  pub type-read : IfYes (e .valid) (Tagged s at stop 0x06 e) → {k : List ℕ} {r : Bool} → k ≡ contents s e → r ≡ oidOk k → r ≡ true
+      → IfYes (e .valid) (TypeAt s at stop e)
   type-read h q o n = record { holds = λ b. record { tagged = h .holds b; oid = sym (o ∙ ap oidOk q) ∙ n } }
 
 -- a member of a list, whose contents conform

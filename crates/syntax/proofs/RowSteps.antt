@@ -6,7 +6,7 @@ use mathlib.Core.List.{List, [], _∷_}
 use mathlib.Core.Path.{_≡_, refl, sym, ap, _∙_}
 use lib.Dec.{ltb, leb, eqb}
 use borrow.Author.Tests.{ltb-true, ltb-false, leb-true, le-ltb, le-leb, lt-leb, eq-eqb, eqb-true, eqb-false}
-use Rattle.octets.specs.Octets.{part}
+use Rattle.octets.specs.Octets.{slice}
 use Rattle.octets.proofs.Lists.{by-test, both}
 use Rattle.der.specs.declared.Element.{Element}
 use Rattle.der.specs.declared.Fit.{Fit}
@@ -18,8 +18,9 @@ use Rattle.syntax.specs.declared.row.Row.{Row}
 use Rattle.syntax.specs.declared.row.Field.{Field}
 use Rattle.syntax.specs.declared.row.Field.the-variants as field
 use Rattle.syntax.specs.Grammar.{obeyed, Syntax, end, optional, many, fit}
-use Rattle.syntax.specs.Rows.{ruleOf, rowSyntax, grammarOf, syntaxAt, isField, RowIs, RowOf, thenBehind, leftOut, byContents}
-use Rattle.syntax.proofs.Match.{Met, own-window, optional-end, one-end, any-end, optional-broken, one-broken, any-broken, optional-other, optional-here, one-turn, any-turn}
+use Rattle.syntax.specs.Rows.{ruleOf, rowSyntax, grammarOf, syntaxAt, isField, RowIs, RowOf, thenAfter, leftOut, byContents}
+use Rattle.syntax.proofs.Match.{Met, own-window, optional-end, one-end, any-end, optional-broken, one-broken, any-broken, optional-other}
+use Rattle.syntax.proofs.Match.{optional-here, one-turn, any-turn}
 use Rattle.syntax.proofs.Rows.{first-fits, second-ends}
 
 then-nothing : (f : Fit) → andThen f Fits ≡ f
@@ -72,8 +73,8 @@ rule-kind kind f a b c =
     absurd (true≢false (sym (both (le-leb 2 kind l) t) ∙ f)))
     (λ t. omega (arith, ltb-false kind 6 t))
 
-contents-then : (f : Fit) (stop : ℕ) (rest : ℕ → Fit) → andThen f (rest stop) ≡ thenBehind (byContents f stop) rest
-unfolding thenBehind byContents andThen
+contents-then : (f : Fit) (stop : ℕ) (rest : ℕ → Fit) → andThen f (rest stop) ≡ thenAfter (byContents f stop) rest
+unfolding thenAfter byContents andThen
 contents-then Fits stop rest = refl
 contents-then (Breaks i) stop rest = refl
 
@@ -109,13 +110,13 @@ module _ {b : Bool} {table : List ℕ} {row : Row} (r : RowOf b table row) (o s 
   unfolding rowSyntax
   row-many e = ap byKind e
 
-  pub row-rule : 7 ≤ row .kind → answer ≡ andThen (fit body s at stop outer) (held outer (obeyed (ruleOf (row .kind - 7) tag o) (part s at stop)))
+  pub row-rule : 7 ≤ row .kind → answer ≡ andThen (fit body s at stop outer) (held outer (obeyed (ruleOf (row .kind - 7) tag o) (slice s at stop)))
   unfolding rowSyntax fit
   row-rule l = rw (le-ltb (row .kind) 7 l, rowSyntax)
 
   -- a row of a field: the answer is that from the field on
   abbrev from : Field → Fit
-  from g = thenBehind g (λ i. fit next s i stop outer)
+  from g = thenAfter g (λ i. fit next s i stop outer)
 
   by-row : b ≡ true → (g : ℕ → Field) → byKind 2 ≡ from (g 2) → byKind 3 ≡ from (g 3) → (row .kind ≡ 4 → byKind 4 ≡ from (g 4))
       → (row .kind ≡ 5 → byKind 5 ≡ from (g 5)) → answer ≡ from (g (row .kind))
@@ -123,7 +124,7 @@ module _ {b : Bool} {table : List ℕ} {row : Row} (r : RowOf b table row) (o s 
 
   -- no element is left
   pub field-none : b ≡ true → {g : Field} → g ≡ leftOut (row .kind) at outer → stop ≤ at → answer ≡ from g
-  unfolding rowSyntax thenBehind leftOut
+  unfolding rowSyntax thenAfter leftOut
   field-none f v l =
       rw v
       (by-row f (λ k. leftOut k at outer)
@@ -133,8 +134,8 @@ module _ {b : Bool} {table : List ℕ} {row : Row} (r : RowOf b table row) (o s 
       (λ z. any-end s at stop outer l next))
 
   -- what stands there is no element
-  pub field-broken : b ≡ true → {e : Element} → e ≡ elementAt s at stop → at < stop → e .good ≡ false → answer ≡ from (field.Breaks at)
-  unfolding rowSyntax thenBehind
+  pub field-broken : b ≡ true → {e : Element} → e ≡ elementAt s at stop → at < stop → e .valid ≡ false → answer ≡ from (field.Breaks at)
+  unfolding rowSyntax thenAfter
   field-broken f q l bad =
       by-row f (λ k. field.Breaks at)
       (optional-broken s at stop outer q l bad tag body next)
@@ -144,7 +145,7 @@ module _ {b : Bool} {table : List ℕ} {row : Row} (r : RowOf b table row) (o s 
 
   module _ {e : Element} (m : Met s at stop e) where
     pub field-any : row .kind ≡ 5 → answer ≡ from (field.Behind (e .stop))
-    unfolding rowSyntax thenBehind
+    unfolding rowSyntax thenAfter
     field-any h = ap byKind h ∙ any-turn m outer next
 
     pub field-one : {x : Fit} {g : Field} → x ≡ fit body s at (e .stop) outer → g ≡ byContents x (e .stop) → row .kind ≡ 4 → answer ≡ from g
@@ -159,7 +160,7 @@ module _ {b : Bool} {table : List ℕ} {row : Row} (r : RowOf b table row) (o s 
     -- optional or required, by the tag
     module _ (f : b ≡ true) (c : row .kind ≡ 5 → ⊥) (d : row .kind ≡ 4 → ⊥) where
       pub field-other : {g : Field} → g ≡ leftOut (row .kind) at at → (e .tag ≡ tag → ⊥) → answer ≡ from g
-      unfolding rowSyntax thenBehind leftOut
+      unfolding rowSyntax thenAfter leftOut
       field-other v h =
           rw v
           (by-row f (λ k. leftOut k at at)
@@ -185,19 +186,19 @@ module _ {n : ℕ} {row : Row} (r : RowIs n row) (o s : List ℕ) (at stop outer
   pub row-stands : fit (grammarOf o n) s at stop outer ≡ fit (syntaxAt o row) s at stop outer
   row-stands = ap (λ (g : Syntax). fit g s at stop outer) (r .stands o)
 
-  -- a field, and what stands behind it
-  module _ {f : Field} (h : fit (syntaxAt o row) s at stop outer ≡ thenBehind f (λ i. fit (grammarOf o (row .next)) s i stop outer)) where
-    pub behind-goes : {i : ℕ} → f ≡ field.Behind i → fit (grammarOf o n) s at stop outer ≡ fit (grammarOf o (row .next)) s i stop outer
-    unfolding thenBehind
-    behind-goes e = row-stands ∙ (rw e at h)
+  -- a field, and what stands after it
+  module _ {f : Field} (h : fit (syntaxAt o row) s at stop outer ≡ thenAfter f (λ i. fit (grammarOf o (row .next)) s i stop outer)) where
+    pub after-goes : {i : ℕ} → f ≡ field.Behind i → fit (grammarOf o n) s at stop outer ≡ fit (grammarOf o (row .next)) s i stop outer
+    unfolding thenAfter
+    after-goes e = row-stands ∙ (rw e at h)
 
-    pub behind-breaks : {i : ℕ} → f ≡ field.Breaks i → fit (grammarOf o n) s at stop outer ≡ Breaks i
-    unfolding thenBehind
-    behind-breaks e = row-stands ∙ (rw e at h)
+    pub after-breaks : {i : ℕ} → f ≡ field.Breaks i → fit (grammarOf o n) s at stop outer ≡ Breaks i
+    unfolding thenAfter
+    after-breaks e = row-stands ∙ (rw e at h)
 
   -- a rule alone: its body is free
   pub rule-alone : {x : Fit} → leb 7 (row .kind) && eqb (row .body) 0 ≡ true
-      → x ≡ held outer (obeyed (ruleOf (row .kind - 7) (row .argument) o) (part s at stop)) → fit (grammarOf o n) s at stop outer ≡ x
+      → x ≡ held outer (obeyed (ruleOf (row .kind - 7) (row .argument) o) (slice s at stop)) → fit (grammarOf o n) s at stop outer ≡ x
   unfolding rowSyntax fit
   rule-alone t v =
       let two = and-eq-true-iff (leb 7 (row .kind)) (eqb (row .body) 0) .0 t in
@@ -239,10 +240,10 @@ module _ (g : Syntax) (s : List ℕ) (at stop outer : ℕ) where
   many-end l = many-from ∙ each-end member s at stop (elementAt s at stop) l
 
   module _ {e : Element} (q : e ≡ elementAt s at stop) where
-    pub many-broken : at < stop → e .good ≡ false → fit (many g) s at stop outer ≡ Breaks (e .at)
+    pub many-broken : at < stop → e .valid ≡ false → fit (many g) s at stop outer ≡ Breaks (e .at)
     many-broken l b = many-from ∙ each-broken member s at stop (elementAt s at stop) q l b
 
-    pub many-turn : e .good ≡ true → fit (many g) s at stop outer ≡ andThen (fit g s (e .at) (e .stop) outer) (fit (many g) s (e .stop) stop outer)
+    pub many-turn : e .valid ≡ true → fit (many g) s at stop outer ≡ andThen (fit g s (e .at) (e .stop) outer) (fit (many g) s (e .stop) stop outer)
     unfolding fit member andThen
     many-turn b = go (fit g s (e .at) (e .stop) outer) refl
       where

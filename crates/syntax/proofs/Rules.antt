@@ -9,7 +9,7 @@ use lib.ListN.{length, drop}
 use lib.Dec.{leb, ltb, lit<, lit≤}
 use borrow.Author.Tests.{leb-true, ltb-true}
 use Rattle.octets.specs.Limits.{maxNumber}
-use Rattle.octets.specs.Octets.{Octets, part}
+use Rattle.octets.specs.Octets.{Octets, slice}
 use Rattle.octets.specs.Number.{numberFrom, number}
 use Rattle.octets.proofs.Number.{number-below, octets-take, octets-drop}
 use Rattle.syntax.specs.Grammar.{obeyed, seqNumber}
@@ -32,5 +32,5 @@ seqNumber-number (x ∷ o) b h =
     rw f (below x o (λ i. b (suc i)) (ltb-true x 128 (two .1)) (omega arith))
 
 -- a part of an octet string is one
-pub octets-part : (s : List ℕ) (a e : ℕ) → Octets s → Octets (part s a e)
-octets-part s a e o = octets-take (drop a s) (e - a) (octets-drop s a o)
+pub octets-slice : (s : List ℕ) (a e : ℕ) → Octets s → Octets (slice s a e)
+octets-slice s a e o = octets-take (drop a s) (e - a) (octets-drop s a o)

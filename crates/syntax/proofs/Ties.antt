@@ -10,9 +10,12 @@ use Rattle.syntax.specs.declared.Form.the-variants as form
 use Rattle.syntax.specs.declared.AttributeForm.{AttributeForm}
 use Rattle.syntax.specs.declared.AttributeForm.the-variants as attribute
 use Rattle.syntax.specs.Asn.{id-signedData, AlgorithmIdentifier, SubjectPublicKeyInfo, Extension, Extensions, ContentInfo, SignedData}
-use Rattle.syntax.specs.Asn.{EncapsulatedContentInfo, SignerInfo, OneSignerInfo, TrustAnchorInfo, StoredTrustAnchorInfo, TrustAnchorChoice, CommunityIdentifierList}
-use Rattle.syntax.specs.Asn.{HardwareSerialEntry, HardwareModules, TargetIdentifier, TAMPMsgRef, TAMPStatusQuery, TrustAnchorChangeInfo, TrustAnchorChangeInfoChoice}
-use Rattle.syntax.specs.Asn.{TrustAnchorUpdate, TAMPSequenceNumber, TAMPSequenceNumbers, TAMPUpdate, CommunityUpdates, TAMPCommunityUpdate, SequenceNumberAdjust}
+use Rattle.syntax.specs.Asn.{EncapsulatedContentInfo, SignerInfo, OneSignerInfo, TrustAnchorInfo, StoredTrustAnchorInfo, TrustAnchorChoice}
+use Rattle.syntax.specs.Asn.{CommunityIdentifierList}
+use Rattle.syntax.specs.Asn.{HardwareSerialEntry, HardwareModules, TargetIdentifier, TAMPMsgRef, TAMPStatusQuery, TrustAnchorChangeInfo}
+use Rattle.syntax.specs.Asn.{TrustAnchorChangeInfoChoice}
+use Rattle.syntax.specs.Asn.{TrustAnchorUpdate, TAMPSequenceNumber, TAMPSequenceNumbers, TAMPUpdate, CommunityUpdates, TAMPCommunityUpdate}
+use Rattle.syntax.specs.Asn.{SequenceNumberAdjust}
 use Rattle.syntax.specs.Asn.{AttrConstraint, AttrConstraintList, ContentTypeConstraint, CMSContentConstraints}
 use Rattle.syntax.specs.Types.{syntaxOf}
 use Rattle.syntax.specs.Forms.{formSyntax, attributeSyntax}

@@ -10,7 +10,7 @@ use lib.ListN.{drop, drop-of-length-le, List·getD-eq-default}
 use lib.Seq.{drop-cons}
 use lib.Dec.{eqb}
 use borrow.Author.Tests.{eqb-true, eqb-false}
-use Rattle.octets.specs.Octets.{part, same}
+use Rattle.octets.specs.Octets.{slice, same}
 use Rattle.octets.specs.Number.{digits}
 use Rattle.octets.proofs.Lists.{by-test, same→≡, same-refl}
 use Rattle.der.specs.Oid.{arc, arcs, oid}
@@ -76,9 +76,9 @@ module _ (o : List ℕ) (k : ℕ) (l : k < typeRows) where
   types-next e = rw add-one (from-row ∙ row-next o (typeAt k) (drop (suc k) tampTypes) (sym (ap (same o) (type-octets k l)) ∙ e))
 
 -- what a comparison with a row's octets, read from the table, says
-pub types-compared : {table row : List ℕ} {b : Bool} (o : List ℕ) (k : ℕ) → table ≡ typeTable → row ≡ part table (10 * k) (10 * k + 10) → b ≡ same o row
+pub types-compared : {table row : List ℕ} {b : Bool} (o : List ℕ) (k : ℕ) → table ≡ typeTable → row ≡ slice table (10 * k) (10 * k + 10) → b ≡ same o row
     → b ≡ same o (typeOctets k)
-types-compared o k p q e = e ∙ ap (same o) (q ∙ ap (λ (t : List ℕ). part t (10 * k) (10 * k + 10)) p)
+types-compared o k p q e = e ∙ ap (same o) (q ∙ ap (λ (t : List ℕ). slice t (10 * k) (10 * k + 10)) p)
 
 pub types-start : (o : List ℕ) → rowOf (drop 0 tampTypes) o ≡ recognised o
 unfolding recognised

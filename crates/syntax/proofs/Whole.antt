@@ -6,7 +6,7 @@ use mathlib.Core.List.{List, [], _∷_}
 use mathlib.Core.Path.{_≡_, refl, sym, ap, ap₂, _∙_}
 use lib.Dec.{ltb, leb, eqb}
 use borrow.Author.Tests.{not-true, ltb-true, ltb-false, leb-true, leb-false, eq-eqb, ne-eqb, eqb-false}
-use Rattle.octets.specs.Octets.{part}
+use Rattle.octets.specs.Octets.{slice}
 use Rattle.octets.proofs.Lists.{by-test}
 use Rattle.der.specs.declared.Element.{Element}
 use Rattle.der.specs.declared.Fit.{Fit}
@@ -15,14 +15,14 @@ use Rattle.der.specs.Element.{elementAt, elements, constructed}
 use Rattle.der.specs.Fit.{andThen, held, kept, eachFrom, each}
 use Rattle.der.specs.Check.{sortedIn, der, spans}
 use Rattle.der.proofs.Bools.{and-true, and-false}
-use Rattle.der.proofs.Elements.{good-within, elements-end, elements-turn}
+use Rattle.der.proofs.Elements.{valid-within, elements-end, elements-turn}
 use Rattle.der.proofs.Checks.{memberFit, sorted-other, der-bad, der-run, spans-none, spans-one}
 use Rattle.syntax.specs.declared.row.Row.{Row}
 use Rattle.syntax.specs.declared.row.Field.{Field}
 use Rattle.syntax.specs.declared.row.Field.the-variants as field
 use Rattle.syntax.specs.Grammar.{obeyed, Syntax, many, fit}
-use Rattle.syntax.specs.Rows.{ruleOf, grammarOf, syntaxAt, RowIs, RowOf, thenBehind, leftOut, byContents}
-use Rattle.syntax.specs.Whole.{derRun, conformsIn, behindIf, thenConforms, entered}
+use Rattle.syntax.specs.Rows.{ruleOf, grammarOf, syntaxAt, RowIs, RowOf, thenAfter, leftOut, byContents}
+use Rattle.syntax.specs.Whole.{derRun, conformsIn, afterIf, thenConforms, entered}
 use Rattle.syntax.proofs.Each.{kept-then, kept-held, kept-turn}
 use Rattle.syntax.proofs.Window.{again}
 use Rattle.syntax.proofs.Match.{Met}
@@ -44,7 +44,7 @@ module _ (j k : Element → Element → Fit) (alike : (f g e : Element) → kept
   unfolding eachFrom
   alike-from f g [] = refl
   alike-from f g (e ∷ es) =
-      kept-turn j f e es ∙ ap₂ _&&_ (ap (λ (b : Bool). e .good && b) (alike f g e)) (alike-from e e es) ∙ sym (kept-turn k g e es)
+      kept-turn j f e es ∙ ap₂ _&&_ (ap (λ (b : Bool). e .valid && b) (alike f g e)) (alike-from e e es) ∙ sym (kept-turn k g e es)
 
   alike-each : (es : List Element) → kept (each j es) ≡ kept (each k es)
   unfolding each
@@ -68,7 +68,7 @@ module _ (d : ℕ) (s : List ℕ) (at stop : ℕ) where
       ∙ and-true (kept (der d s e)))
       (elements s at stop)
 
-  module _ {e : Element} (q : e ≡ elementAt s at stop) (g : e .good ≡ true) where
+  module _ {e : Element} (q : e ≡ elementAt s at stop) (g : e .valid ≡ true) where
     pub run-turn : derRun d s at stop ≡ kept (der d s e) && derRun d s (e .stop) stop
     unfolding derRun each eachFrom
     run-turn =
@@ -81,7 +81,7 @@ module _ (d : ℕ) (s : List ℕ) (at stop : ℕ) where
         from-each (m ∷ es) = refl
 
 -- an element alone in its window
-pub run-one : (d : ℕ) (s : List ℕ) (at stop : ℕ) {e : Element} → e ≡ elementAt s at stop → e .good ≡ true → derRun d s at (e .stop) ≡ kept (der d s e)
+pub run-one : (d : ℕ) (s : List ℕ) (at stop : ℕ) {e : Element} → e ≡ elementAt s at stop → e .valid ≡ true → derRun d s at (e .stop) ≡ kept (der d s e)
 run-one d s at stop {e} q g =
     run-turn d s at (e .stop) (sym (again s at stop q g)) g
     ∙ ap (λ (b : Bool). kept (der d s e) && b) (run-end d s (e .stop) (e .stop) (omega arith))
@@ -89,7 +89,7 @@ run-one d s at stop {e} q g =
 
 -- an element that spans its window, or not: what is asked of it is asked of the run
 module _ (d : ℕ) (s : List ℕ) (at stop outer : ℕ) {e : Element} (q : e ≡ elementAt s at stop) where
-  pub spans-bad : e .good ≡ false → kept (spans d s at stop outer) ≡ false
+  pub spans-bad : e .valid ≡ false → kept (spans d s at stop outer) ≡ false
   unfolding andThen
   spans-bad b =
       by-test (ltb at stop)
@@ -99,10 +99,10 @@ module _ (d : ℕ) (s : List ℕ) (at stop outer : ℕ) {e : Element} (q : e ≡
       ∙ ap (λ (f : Fit). andThen f (held (e .stop) (eqb (e .stop) stop))) (der-bad s e d b)))
       (λ t. ap kept (spans-none d s at stop outer (ltb-false at stop t)))
 
-  module _ (g : e .good ≡ true) where
+  module _ (g : e .valid ≡ true) where
     spans-kept : kept (spans d s at stop outer) ≡ kept (der d s e) && eqb (e .stop) stop
     spans-kept =
-        let w = good-within s at stop q g in
+        let w = valid-within s at stop q g in
         let l : at < stop = omega arith in
         ap kept (spans-one d s at stop outer l q)
         ∙ kept-then (der d s e) (held (e .stop) (eqb (e .stop) stop))
@@ -120,7 +120,7 @@ module _ (d : ℕ) (s : List ℕ) (at stop outer : ℕ) {e : Element} (q : e ≡
         ∙ ap (derRun d s at) h
 
 -- one that is entered
-pub run-inside : (d : ℕ) (s : List ℕ) (e : Element) → e .good ≡ true → (e .tag ≡ 49 → ⊥) → (d ≡ 0 → ⊥) → constructed (e .tag) ≡ true
+pub run-inside : (d : ℕ) (s : List ℕ) (e : Element) → e .valid ≡ true → (e .tag ≡ 49 → ⊥) → (d ≡ 0 → ⊥) → constructed (e .tag) ≡ true
     → derRun (d - 1) s (e .start) (e .stop) ≡ kept (der d s e)
 run-inside d s e g n z k = sym (ap kept (der-run s e d z g k) ∙ run-free (d - 1) s (e .start) (e .stop) (e .tag) n)
 
@@ -131,7 +131,7 @@ entered-is body tag d e =
     let three = and-eq-true-iff (not (eqb d 0)) (constructed tag) .0 (two .1) in
     (eqb-false tag 49 (not-true _ (two .0)), (eqb-false d 0 (not-true _ (three .0)), three .1))
 
--- a row of the table, by what was read of it: a field and what stands behind it, or another row
+-- a row of the table, by what was read of it: a field and what stands after it, or another row
 module _ {n : ℕ} {row : Row} (r : RowIs n row) (o s : List ℕ) (at stop d outer : ℕ) where
   pub whole-stands : conformsIn d (grammarOf o n) s at stop outer ≡ conformsIn d (syntaxAt o row) s at stop outer
   whole-stands = ap (λ (g : Syntax). conformsIn d g s at stop outer) (r .stands o)
@@ -146,17 +146,17 @@ module _ {n : ℕ} {row : Row} (r : RowIs n row) (o s : List ℕ) (at stop d out
     conforms-not e = whole-stands ∙ (rw e at h)
 
 left-conforms : (kind at x y : ℕ) (d : ℕ → Bool) (f : ℕ → Fit)
-    → d at && kept (thenBehind (leftOut kind at x) f) ≡ thenConforms (leftOut kind at y) (λ i. d i && kept (f i))
-unfolding leftOut thenBehind thenConforms
+    → d at && kept (thenAfter (leftOut kind at x) f) ≡ thenConforms (leftOut kind at y) (λ i. d i && kept (f i))
+unfolding leftOut thenAfter thenConforms
 left-conforms kind at x y d f = by-test (eqb kind 3 || eqb kind 4) (λ t. rw (t, leftOut) (and-false (d at))) (λ t. rw (t, leftOut))
 
-if-conforms : (ok : Bool) (stop : ℕ) (rest : ℕ → Bool) → thenConforms (behindIf ok stop) rest ≡ ok && rest stop
-unfolding thenConforms behindIf
+if-conforms : (ok : Bool) (stop : ℕ) (rest : ℕ → Bool) → thenConforms (afterIf ok stop) rest ≡ ok && rest stop
+unfolding thenConforms afterIf
 if-conforms true stop rest = refl
 if-conforms false stop rest = refl
 
-contents-kept : (x : Fit) (stop : ℕ) (f : ℕ → Fit) → kept (thenBehind (byContents x stop) f) ≡ kept x && kept (f stop)
-unfolding thenBehind byContents
+contents-kept : (x : Fit) (stop : ℕ) (f : ℕ → Fit) → kept (thenAfter (byContents x stop) f) ≡ kept x && kept (f stop)
+unfolding thenAfter byContents
 contents-kept Fits stop f = refl
 contents-kept (Breaks o) stop f = refl
 
@@ -200,10 +200,10 @@ module _ {b : Bool} {table : List ℕ} {row : Row} (r : RowOf b table row) (o s 
   whole-many e = sym (by-fit (row-many r o s at stop outer e))
 
   pub whole-rule : 7 ≤ row .kind → {x : Bool} → conformsIn d body s at stop outer ≡ x
-      → x && obeyed (ruleOf (row .kind - 7) (row .argument) o) (part s at stop) ≡ answer
+      → x && obeyed (ruleOf (row .kind - 7) (row .argument) o) (slice s at stop) ≡ answer
   whole-rule l e =
       let f = fit body s at stop outer in
-      let ok = obeyed (ruleOf (row .kind - 7) (row .argument) o) (part s at stop) in
+      let ok = obeyed (ruleOf (row .kind - 7) (row .argument) o) (slice s at stop) in
       rw (← e)
       (assoc (run at) (kept f) ok
       ∙ ap (λ (x : Bool). run at && x) (sym (kept-then f (held outer ok) ∙ ap (λ (x : Bool). kept f && x) (kept-held outer ok)))
@@ -214,29 +214,29 @@ module _ {b : Bool} {table : List ℕ} {row : Row} (r : RowOf b table row) (o s 
   pub whole-none : b ≡ true → {g : Field} → g ≡ leftOut (row .kind) at at → stop ≤ at → answer ≡ from g
   whole-none f v l = rw v (by-fit (field-none r o s at stop outer f refl l) ∙ left-conforms (row .kind) at outer at run next)
 
-  pub whole-broken : b ≡ true → {e : Element} → e ≡ elementAt s at stop → at < stop → e .good ≡ false → answer ≡ from (field.Breaks at)
-  unfolding thenBehind thenConforms
+  pub whole-broken : b ≡ true → {e : Element} → e ≡ elementAt s at stop → at < stop → e .valid ≡ false → answer ≡ from (field.Breaks at)
+  unfolding thenAfter thenConforms
   whole-broken f q l bad = by-fit (field-broken r o s at stop outer f q l bad) ∙ and-false (run at)
 
   module _ {e : Element} (m : Met s at stop e) where
     -- the element is der, and what its contents give
-    by-element : (x : Fit) → fit (syntaxAt o row) s at stop outer ≡ thenBehind (byContents x (e .stop)) next
-        → {ok : Bool} {g : Field} → ok ≡ kept (der d s e) && kept x → g ≡ behindIf ok (e .stop) → answer ≡ from g
+    by-element : (x : Fit) → fit (syntaxAt o row) s at stop outer ≡ thenAfter (byContents x (e .stop)) next
+        → {ok : Bool} {g : Field} → ok ≡ kept (der d s e) && kept x → g ≡ afterIf ok (e .stop) → answer ≡ from g
     by-element x h p v =
         rw (v, p)
-        (ap₂ _&&_ (run-turn d s at stop (m .is) (m .good)) (ap kept h ∙ contents-kept x (e .stop) next)
+        (ap₂ _&&_ (run-turn d s at stop (m .is) (m .valid)) (ap kept h ∙ contents-kept x (e .stop) next)
         ∙ swap (kept (der d s e)) (run (e .stop)) (kept x) (kept (next (e .stop)))
         ∙ sym (if-conforms (kept (der d s e) && kept x) (e .stop) (λ i. run i && kept (next i))))
 
-    pub whole-any : row .kind ≡ 5 → {x : Fit} {ok : Bool} {g : Field} → x ≡ der d s e → ok ≡ kept x → g ≡ behindIf ok (e .stop) → answer ≡ from g
-    unfolding thenBehind byContents
+    pub whole-any : row .kind ≡ 5 → {x : Fit} {ok : Bool} {g : Field} → x ≡ der d s e → ok ≡ kept x → g ≡ afterIf ok (e .stop) → answer ≡ from g
+    unfolding thenAfter byContents
     whole-any h w p v = by-element Fits (field-any r o s at stop outer m h) (p ∙ ap kept w ∙ sym (and-true (kept (der d s e)))) v
 
-    pub whole-one : {ok : Bool} {g : Field} → ok ≡ conformsIn d body s at (e .stop) outer → g ≡ behindIf ok (e .stop) → row .kind ≡ 4 → answer ≡ from g
+    pub whole-one : {ok : Bool} {g : Field} → ok ≡ conformsIn d body s at (e .stop) outer → g ≡ afterIf ok (e .stop) → row .kind ≡ 4 → answer ≡ from g
     whole-one p v k =
         let x = fit body s at (e .stop) outer in
         by-element x (field-one r o s at stop outer m refl refl k)
-        (p ∙ ap (λ (y : Bool). y && kept x) (run-one d s at stop (m .is) (m .good)))
+        (p ∙ ap (λ (y : Bool). y && kept x) (run-one d s at stop (m .is) (m .valid)))
         v
 
     module _ (f : b ≡ true) (c : row .kind ≡ 5 → ⊥) (n : row .kind ≡ 4 → ⊥) where
@@ -244,7 +244,7 @@ module _ {b : Bool} {table : List ℕ} {row : Row} (r : RowOf b table row) (o s 
       whole-other v h = rw v (by-fit (field-other r o s at stop outer m f c n refl h) ∙ left-conforms (row .kind) at at at run next)
 
       pub whole-here : e .tag ≡ row .argument → {ok : Bool} {g : Field} → ok ≡ kept (der d s e) && kept (fit body s (e .start) (e .stop) at)
-          → g ≡ behindIf ok (e .stop) → answer ≡ from g
+          → g ≡ afterIf ok (e .stop) → answer ≡ from g
       whole-here t p v = by-element (fit body s (e .start) (e .stop) at) (field-here r o s at stop outer m f c n refl refl t) p v
 
 -- what the contents give, of an element that is entered and of one that is not
@@ -253,10 +253,10 @@ module _ (g : Syntax) (s : List ℕ) (at stop d : ℕ) {e : Element} (m : Met s 
       → ok ≡ kept (der d s e) && kept (fit g s (e .start) (e .stop) at)
   by-run body t p =
       let h = entered-is body (e .tag) d t in
-      p ∙ ap (λ (x : Bool). x && kept (fit g s (e .start) (e .stop) at)) (run-inside d s e (m .good) (h .0) (h .1 .0) (h .1 .1))
+      p ∙ ap (λ (x : Bool). x && kept (fit g s (e .start) (e .stop) at)) (run-inside d s e (m .valid) (h .0) (h .1 .0) (h .1 .1))
 
   pub by-leaf : ok ≡ kept (der d s e) && kept (fit g s (e .start) (e .stop) (e .at)) → ok ≡ kept (der d s e) && kept (fit g s (e .start) (e .stop) at)
-  by-leaf p = p ∙ ap (λ (i : ℕ). kept (der d s e) && kept (fit g s (e .start) (e .stop) i)) (good-within s at stop (m .is) (m .good) .here)
+  by-leaf p = p ∙ ap (λ (i : ℕ). kept (der d s e) && kept (fit g s (e .start) (e .stop) i)) (valid-within s at stop (m .is) (m .valid) .here)
 
 -- the loop over a run
 
@@ -264,14 +264,14 @@ module _ (g : Syntax) (s : List ℕ) (at stop d outer : ℕ) where
   pub whole-done : stop ≤ at → conformsIn d (many g) s at stop outer ≡ true
   whole-done l = ap₂ (λ (x : Bool) (f : Fit). x && kept f) (run-end d s at stop l) (many-end g s at stop outer l)
 
-  pub whole-bad : {e : Element} → e ≡ elementAt s at stop → at < stop → e .good ≡ false → conformsIn d (many g) s at stop outer ≡ false
+  pub whole-bad : {e : Element} → e ≡ elementAt s at stop → at < stop → e .valid ≡ false → conformsIn d (many g) s at stop outer ≡ false
   whole-bad q l b = ap (λ (f : Fit). derRun d s at stop && kept f) (many-broken g s at stop outer q l b) ∙ and-false (derRun d s at stop)
 
-  module _ {e : Element} (q : e ≡ elementAt s at stop) (b : e .good ≡ true) where
+  module _ {e : Element} (q : e ≡ elementAt s at stop) (b : e .valid ≡ true) where
     whole-turn : conformsIn d (many g) s at stop outer ≡ conformsIn d g s at (e .stop) outer && conformsIn d (many g) s (e .stop) stop outer
     whole-turn =
         let here : fit g s (e .at) (e .stop) outer ≡ fit g s at (e .stop) outer =
-        ap (λ (i : ℕ). fit g s i (e .stop) outer) (good-within s at stop q b .here)
+        ap (λ (i : ℕ). fit g s i (e .stop) outer) (valid-within s at stop q b .here)
         in
         ap₂ _&&_ (run-turn d s at stop q b)
         (ap kept (many-turn g s at stop outer q b ∙ ap (λ (f : Fit). andThen f (fit (many g) s (e .stop) stop outer)) here)

@@ -11,19 +11,19 @@ use Rattle.octets.proofs.Lists.{by-test}
 use Rattle.der.specs.declared.Element.{Element}
 use Rattle.der.specs.Element.{elementAt, elements, withTag}
 use Rattle.der.proofs.Header.{Header, header-or-not, element-is, element-absent}
-use Rattle.der.proofs.Elements.{Within, good-within, bounded, elements-end, elements-broken, elements-turn}
+use Rattle.der.proofs.Elements.{InWindow, valid-within, bounded, elements-end, elements-broken, elements-turn}
 use Rattle.der.proofs.Elements.{with-tag-end, with-tag-broken, with-tag-found, with-tag-turn}
 use Rattle.syntax.proofs.Each.{Every, every-weaken}
 
 -- an element of the octets, which it is whatever window it was found in
 pub record Own (s : List ℕ) (e : Element) : Type 0 where
   pub is : e ≡ elementAt s (e .at) (e .stop)
-  pub good : e .good ≡ true
+  pub valid : e .valid ≡ true
 
-pub own-within : (s : List ℕ) (e : Element) → Own s e → Within s (e .at) (e .stop) e
-own-within s e o = good-within s (e .at) (e .stop) (o .is) (o .good)
+pub own-within : (s : List ℕ) (e : Element) → Own s e → InWindow s (e .at) (e .stop) e
+own-within s e o = valid-within s (e .at) (e .stop) (o .is) (o .valid)
 
-module _ (s : List ℕ) (at stop : ℕ) {e : Element} (q : e ≡ elementAt s at stop) (g : e .good ≡ true) where
+module _ (s : List ℕ) (at stop : ℕ) {e : Element} (q : e ≡ elementAt s at stop) (g : e .valid ≡ true) where
   -- in every window in which it ends it is the same
   pub narrowed : (to : ℕ) → e .stop ≤ to → to ≤ length s → elementAt s at to ≡ e
   narrowed to l m =
@@ -35,27 +35,27 @@ module _ (s : List ℕ) (at stop : ℕ) {e : Element} (q : e ≡ elementAt s at 
       record { within = m; room = omega arith; low-tag = h .low-tag; begins = omega arith; shortest = h .shortest; ends = omega arith }
       in
       element-is s at to again ∙ sym is)
-      (λ n. absurd (true≢false (sym g ∙ ap (λ (x : Element). x .good) (q ∙ element-absent s at stop n))))
+      (λ n. absurd (true≢false (sym g ∙ ap (λ (x : Element). x .valid) (q ∙ element-absent s at stop n))))
 
   pub again : elementAt s at (e .stop) ≡ e
-  again = let w = good-within s at stop q g in narrowed (e .stop) (omega arith) (omega arith)
+  again = let w = valid-within s at stop q g in narrowed (e .stop) (omega arith) (omega arith)
 
   pub own : Own s e
-  own = record { is = sym again ∙ ap (λ (i : ℕ). elementAt s i (e .stop)) (sym (good-within s at stop q g .here)); good = g }
+  own = record { is = sym again ∙ ap (λ (i : ℕ). elementAt s i (e .stop)) (sym (valid-within s at stop q g .here)); valid = g }
 
--- what holds at the end of a run, where no element stands, and at an element if it holds behind it, holds of every run
+-- what holds at the end of a run, where no element stands, and at an element if it holds after it, holds of every run
 module _ (s : List ℕ) (stop : ℕ) (P : ℕ → Type 0) (none : (at : ℕ) → stop ≤ at → P at)
-    (broken : (at : ℕ) → at < stop → elementAt s at stop .good ≡ false → P at)
-    (turn : (at : ℕ) → elementAt s at stop .good ≡ true → P (elementAt s at stop .stop) → P at) where
+    (broken : (at : ℕ) → at < stop → elementAt s at stop .valid ≡ false → P at)
+    (turn : (at : ℕ) → elementAt s at stop .valid ≡ true → P (elementAt s at stop .stop) → P at) where
   by-fuel : (n at : ℕ) → stop - at ≤ n → P at
   by-fuel zero at l = none at (omega arith)
   by-fuel (suc n) at l =
       let e = elementAt s at stop in
       by-test (ltb at stop)
       (λ t.
-      by-test (e .good)
+      by-test (e .valid)
       (λ g.
-      let w = good-within s at stop refl g in
+      let w = valid-within s at stop refl g in
       let m = ltb-true at stop t in
       turn at g (by-fuel n (e .stop) (omega arith)))
       (λ g. broken at (ltb-true at stop t) g))
@@ -66,7 +66,7 @@ module _ (s : List ℕ) (stop : ℕ) (P : ℕ → Type 0) (none : (at : ℕ) →
 
 -- a member of a run in a window
 pub record Member (s : List ℕ) (at stop : ℕ) (m : Element) : Type 0 where
-  pub own : m .good ≡ true → Own s m
+  pub own : m .valid ≡ true → Own s m
   pub from : at ≤ m .at
   pub ends : m .stop ≤ stop
 
@@ -81,7 +81,7 @@ members s at stop =
     (record { own = λ g. absurd (true≢false (sym g ∙ b)); from = omega arith; ends = w .ends (omega arith) }, tt))
     (λ at g h.
     let e = elementAt s at stop in
-    let w = good-within s at stop refl g in
+    let w = valid-within s at stop refl g in
     rw (elements-turn s at stop refl g) (
       record { own = λ b. own s at stop refl g; from = omega arith; ends = w .ends },
       every-weaken (Member s (e .stop) stop) (Member s at stop)
@@ -91,30 +91,30 @@ members s at stop =
     ))
     at
 
--- what holds of every member holds of the first with a tag, and of all behind it
+-- what holds of every member holds of the first with a tag, and of all after it
 
-pub tagged-member : (P : Element → Type 0) (t : ℕ) (es : List Element) → Every P es → withTag t es .good ≡ true → P (withTag t es)
+pub tagged-member : (P : Element → Type 0) (t : ℕ) (es : List Element) → Every P es → withTag t es .valid ≡ true → P (withTag t es)
 unfolding withTag
 tagged-member P t [] h g = absurd (false≢true g)
 tagged-member P t (e ∷ es) h g =
     by-test (eqb (e .tag) t) (λ n. rw (n, withTag) (h .0)) (λ n. rw (n, withTag) (tagged-member P t es (h .1) (rw (n, withTag) at g)))
 
-pub behind-member : (P : Element → Type 0) (t : ℕ) (s : List ℕ) (at stop : ℕ) → Every P (elements s at stop) → withTag t (elements s at stop) .good ≡ true
+pub after-member : (P : Element → Type 0) (t : ℕ) (s : List ℕ) (at stop : ℕ) → Every P (elements s at stop) → withTag t (elements s at stop) .valid ≡ true
     → Every P (elements s (withTag t (elements s at stop) .stop) stop)
-behind-member P t s at stop =
+after-member P t s at stop =
     by-run s stop
-    (λ (at : ℕ). Every P (elements s at stop) → withTag t (elements s at stop) .good ≡ true → Every P (elements s (withTag t (elements s at stop) .stop) stop))
-    (λ at l h g. absurd (false≢true (sym (ap (λ (x : Element). x .good) (with-tag-end t s at stop l)) ∙ g)))
+    (λ (at : ℕ). Every P (elements s at stop) → withTag t (elements s at stop) .valid ≡ true → Every P (elements s (withTag t (elements s at stop) .stop) stop))
+    (λ at l h g. absurd (false≢true (sym (ap (λ (x : Element). x .valid) (with-tag-end t s at stop l)) ∙ g)))
     (λ at l b h g.
     let e = elementAt s at stop in
     absurd
     (false≢true
     (by-test (eqb (e .tag) t)
-    (λ n. sym b ∙ ap (λ (x : Element). x .good) (sym (with-tag-found t s at stop refl l (eqb-true (e .tag) t n))) ∙ g)
-    (λ n. ap (λ (x : Element). x .good) (sym (with-tag-broken t s at stop refl l b (eqb-false (e .tag) t n))) ∙ g))))
+    (λ n. sym b ∙ ap (λ (x : Element). x .valid) (sym (with-tag-found t s at stop refl l (eqb-true (e .tag) t n))) ∙ g)
+    (λ n. ap (λ (x : Element). x .valid) (sym (with-tag-broken t s at stop refl l b (eqb-false (e .tag) t n))) ∙ g))))
     (λ at b ih h g.
     let e = elementAt s at stop in
-    let w = good-within s at stop refl b in
+    let w = valid-within s at stop refl b in
     let l : at < stop = omega arith in
     let k : Every P (e ∷ elements s (e .stop) stop) = rw (elements-turn s at stop refl b) at h in
     by-test (eqb (e .tag) t)

@@ -4,7 +4,7 @@ use mathlib.Core.Bool.{Bool, true, false, not, _&&_}
 use mathlib.Core.List.{List, [], _∷_}
 use lib.ListN.{length}
 use lib.Dec.{ltb, leb, eqb}
-use Rattle.octets.specs.Octets.{octet, part, same}
+use Rattle.octets.specs.Octets.{octet, slice, same}
 use Rattle.der.specs.declared.Fit.{Fit}
 use Rattle.der.specs.declared.Fit.the-variants.{Fits, Breaks}
 use Rattle.der.specs.Element.{elementAt, elements}
@@ -54,27 +54,27 @@ pub data Syntax : Type 0 where
 
 -- at a place of a window: no element is left, what stands there is none, or one stands there
 abbrev pub byElement : Bool → ℕ → Bool → Fit → Fit → Fit
-byElement room at good none there = elim room [ false ↦ none | true ↦ elim good [ false ↦ Breaks at | true ↦ there ] ]
+byElement room at valid none there = elim room [ false ↦ none | true ↦ elim valid [ false ↦ Breaks at | true ↦ there ] ]
 
 -- Whether the window [at, stop), the contents of the element at `outer`, is as the syntax says. 02, E3: an element that may not stand at its place is charged itself, a missing part
 -- to the element that lacks it.
 unfoldable pub fit : Syntax → List ℕ → ℕ → ℕ → ℕ → Fit
 fit free s at stop outer = Fits
 fit end s at stop outer = held at (leb stop at)
-fit (obeys r g) s at stop outer = andThen (fit g s at stop outer) (held outer (obeyed r (part s at stop)))
+fit (obeys r g) s at stop outer = andThen (fit g s at stop outer) (held outer (obeyed r (slice s at stop)))
 fit (optional t g next) s at stop outer =
     let e = elementAt s at stop in
-    byElement (ltb at stop) at (e .good) (fit next s at stop outer)
+    byElement (ltb at stop) at (e .valid) (fit next s at stop outer)
     (elim (eqb (e .tag) t) [
       | false ↦ fit next s at stop outer
       | true ↦ andThen (fit g s (e .start) (e .stop) at) (fit next s (e .stop) stop outer)
     ])
 fit (one g next) s at stop outer =
     let e = elementAt s at stop in
-    byElement (ltb at stop) at (e .good) (Breaks outer) (andThen (fit g s at (e .stop) outer) (fit next s (e .stop) stop outer))
+    byElement (ltb at stop) at (e .valid) (Breaks outer) (andThen (fit g s at (e .stop) outer) (fit next s (e .stop) stop outer))
 fit (anyOptional next) s at stop outer =
     let e = elementAt s at stop in
-    byElement (ltb at stop) at (e .good) (fit next s at stop outer) (fit next s (e .stop) stop outer)
+    byElement (ltb at stop) at (e .valid) (fit next s at stop outer) (fit next s (e .stop) stop outer)
 fit (many g) s at stop outer = each (λ former e. fit g s (e .at) (e .stop) outer) (elements s at stop)
 
 -- a field that must be there

@@ -17,7 +17,7 @@ pub record IfYes (b : Bool) (P : Type 0) : Type 0 where
 -- an element with this tag stands at a place of a window
 pub record Tagged (s : List ℕ) (at stop t : ℕ) (e : Element) : Type 0 where
   pub is : e ≡ elementAt s at stop
-  pub good : e .good ≡ true
+  pub valid : e .valid ≡ true
   pub tag : e .tag ≡ t
 
 -- an OBJECT IDENTIFIER

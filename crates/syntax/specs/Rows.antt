@@ -50,7 +50,7 @@ grammarOf o n = grown n o n
 abbrev pub syntaxAt : List ℕ → Row → Syntax
 syntaxAt o row = rowSyntax (row .kind) (row .argument) o (grammarOf o (row .body)) (grammarOf o (row .next))
 
--- the kinds of a field: optional, required, one, anyOptional. The next row says what stands behind the field
+-- the kinds of a field: optional, required, one, anyOptional. The next row says what stands after the field
 abbrev pub isField : ℕ → Bool
 isField kind = leb 2 kind && ltb kind 6
 
@@ -68,9 +68,9 @@ pub record RowOf (b : Bool) (table : List ℕ) (row : Row) : Type 0 where
   pub field : isField (row .kind) ≡ b
 
 -- a field, and then the rest of the window from where it goes on
-unfoldable pub thenBehind : Field → (ℕ → Fit) → Fit
-thenBehind (field.Behind i) rest = rest i
-thenBehind (field.Breaks o) rest = Breaks o
+unfoldable pub thenAfter : Field → (ℕ → Fit) → Fit
+thenAfter (field.Behind i) rest = rest i
+thenAfter (field.Breaks o) rest = Breaks o
 
 -- a field that is not there: of kind required or one it is a break, charged to an element; else the window goes on at its place
 unfoldable pub leftOut : ℕ → ℕ → ℕ → Field

@@ -2,7 +2,7 @@
 use Prim.Native.Nat.{ℕ, _+_, _*_}
 use mathlib.Core.List.{List, [], _∷_}
 use lib.ListN.{getD}
-use Rattle.octets.specs.Octets.{part}
+use Rattle.octets.specs.Octets.{slice}
 use Rattle.syntax.specs.declared.TampType.{TampType}
 use Rattle.syntax.specs.declared.TampType.the-variants.{SeqNumAdjust}
 use Rattle.syntax.specs.Types.{tampTypes}
@@ -20,7 +20,7 @@ typeRows = 4
 
 -- the octets of a row, and the type that it stands for
 abbrev pub typeOctets : ℕ → List ℕ
-typeOctets k = part typeTable (10 * k) (10 * k + 10)
+typeOctets k = slice typeTable (10 * k) (10 * k + 10)
 
 abbrev pub typeAt : ℕ → TampType
 typeAt k = getD tampTypes k SeqNumAdjust

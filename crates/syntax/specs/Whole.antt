@@ -19,9 +19,9 @@ abbrev pub conformsIn : ℕ → Syntax → List ℕ → ℕ → ℕ → ℕ → 
 conformsIn d g s at stop outer = derRun d s at stop && kept (fit g s at stop outer)
 
 -- the window goes on at a place where a test holds, and then the rest of it; a break of either is a no
-unfoldable pub behindIf : Bool → ℕ → Field
-behindIf true stop = field.Behind stop
-behindIf false stop = field.Breaks stop
+unfoldable pub afterIf : Bool → ℕ → Field
+afterIf true stop = field.Behind stop
+afterIf false stop = field.Breaks stop
 
 unfoldable pub thenConforms : Field → (ℕ → Bool) → Bool
 thenConforms (field.Behind i) rest = rest i

@@ -119,7 +119,7 @@ fn find_type(types: &[u8], o: &[u8]) -> Recognised
 {
     let mut k = 0;
     while k < 4 {
-        if octets::equal(o, octets::part(types, 10 * k, 10 * k + 10)) {
+        if octets::equal(o, octets::slice(types, 10 * k, 10 * k + 10)) {
             return Recognised::Tamp(type_at(k));
         }
         k += 1;

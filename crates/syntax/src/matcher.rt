@@ -3,13 +3,13 @@ ghost use mathlib.Core.Path.{_≡_};
 ghost use mathlib.Core.Bool.{true, false, _&&_};
 ghost use Prim.Native.Nat.{_<_};
 ghost use lib.Dec.{leb, eqb};
-ghost use Rattle.octets.specs.Octets.{part as partOf};
+ghost use Rattle.octets.specs.Octets.{slice as sliceOf};
 ghost use Rattle.der.specs.Element.{elementAt};
 ghost use Rattle.der.specs.Fit.{held};
 ghost use Rattle.syntax.specs.Grammar.{obeyed, many, fit};
 ghost use Rattle.syntax.specs.Forms.{formSyntax, attributeSyntax};
 ghost use Rattle.syntax.specs.Table.{count, rows};
-ghost use Rattle.syntax.specs.Rows.{ruleOf, grammarOf, syntaxAt, RowOf, thenBehind, byContents};
+ghost use Rattle.syntax.specs.Rows.{ruleOf, grammarOf, syntaxAt, RowOf, thenAfter, byContents};
 use crate::AttributeForm;
 use crate::Form;
 use crate::row::ANY_OPTIONAL;
@@ -43,9 +43,9 @@ fn check_rule(
     stop: usize,
     outer: usize,
 ) -> Fit
-    ensures { λ r. ⌜ r ≡ held outer (obeyed (ruleOf rule n (now (given .entry))) (partOf (now (s .entry)) at stop)) ⌝ }
+    ensures { λ r. ⌜ r ≡ held outer (obeyed (ruleOf rule n (now (given .entry))) (sliceOf (now (s .entry)) at stop)) ⌝ }
 {
-    if keeps(rule, n, given, octets::part(s, at, stop)) {
+    if keeps(rule, n, given, octets::slice(s, at, stop)) {
         return Fit::Fits;
     }
     Fit::Breaks(outer)
@@ -112,14 +112,14 @@ fn fit_field(
     ensures { λ r.
         ⌜
         fit (syntaxAt (now (given .entry)) row) (now (s .entry)) at stop outer
-        ≡ thenBehind r (λ i. fit (grammarOf (now (given .entry)) (row .next)) (now (s .entry)) i stop outer)
+        ≡ thenAfter r (λ i. fit (grammarOf (now (given .entry)) (row .next)) (now (s .entry)) i stop outer)
         ⌝ }
 {
     if stop <= at {
         return left_out(row.kind, at, outer);
     }
     let e = der::element_at(s, at, stop);
-    if !e.good {
+    if !e.valid {
         return Field::Breaks(at);
     }
     if row.kind == ANY_OPTIONAL {
@@ -209,7 +209,7 @@ fn fit_member(
     e: Element,
     outer: usize,
 ) -> Fit
-    requires { ⌜ (now table ≡ rows) × ((n < count) × ((e ≡ elementAt (now s) (e .at) (e .stop)) × (e .good ≡ true))) ⌝ }
+    requires { ⌜ (now table ≡ rows) × ((n < count) × ((e ≡ elementAt (now s) (e .at) (e .stop)) × (e .valid ≡ true))) ⌝ }
     ensures { λ r. ⌜ r ≡ fit (grammarOf (now (given .entry)) n) (now (s .entry)) (e .at) (e .stop) outer ⌝ }
 {
     let row = row_at(table, n);
@@ -238,7 +238,7 @@ fn fit_each(
     let mut i = at;
     while i < stop {
         let e = der::element_at(s, i, stop);
-        if !e.good {
+        if !e.valid {
             return Fit::Breaks(e.at);
         }
         if let Fit::Breaks(o) = fit_member(table, given, n, s, e, outer) {

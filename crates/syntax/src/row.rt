@@ -11,7 +11,7 @@ use crate::Form;
 use crate::TampType;
 use crate::table;
 
-// A row: its kind, a tag or a rule's argument, the row of the body, and that of what stands behind.
+// A row: its kind, a tag or a rule's argument, the row of the body, and that of what stands after.
 pub struct Row {
     pub kind: usize,
     pub argument: usize,
@@ -19,7 +19,7 @@ pub struct Row {
     pub next: usize,
 }
 
-// Where the window goes on behind a field, or the element that breaks it.
+// Where the window goes on after a field, or the element that breaks it.
 pub enum Field {
     Behind(usize),
     Breaks(usize),
@@ -122,7 +122,7 @@ pub fn row_at(table: &table::Table, n: usize) -> Row
     }
 }
 
-// A row of a field: it names the row of what stands behind the field.
+// A row of a field: it names the row of what stands after the field.
 pub fn is_field(kind: usize) -> bool
     ensures { λ r. ⌜ r ≡ isField kind ⌝ }
 {
@@ -140,7 +140,7 @@ pub fn left_out(kind: usize, at: usize, charged: usize) -> Field
 }
 
 // The row of each form.
-pub fn message_row(kind: TampType) -> usize
+fn message_row(kind: TampType) -> usize
     ensures { λ r. ⌜ (r ≡ messageRow kind) × (r < count) ⌝ }
 {
     match kind {

@@ -9,7 +9,7 @@ ghost use Rattle.syntax.specs.Grammar.{many, fit};
 ghost use Rattle.syntax.specs.Forms.{formSyntax};
 ghost use Rattle.syntax.specs.Table.{count, rows};
 ghost use Rattle.syntax.specs.Rows.{grammarOf, syntaxAt, RowOf};
-ghost use Rattle.syntax.specs.Whole.{conformsIn, behindIf, thenConforms, entered};
+ghost use Rattle.syntax.specs.Whole.{conformsIn, afterIf, thenConforms, entered};
 use crate::Form;
 use crate::matcher;
 use crate::row::ANY_OPTIONAL;
@@ -30,8 +30,6 @@ use crate::table;
 use der::Element;
 use der::Fit;
 
-const SET: u8 = 0x31;
-
 fn is_kept(f: Fit) -> bool
     ensures { λ r. ⌜ r ≡ kept f ⌝ }
 {
@@ -42,8 +40,8 @@ fn is_kept(f: Fit) -> bool
 }
 
 // A field up to stop that is as it should be, or not.
-fn behind_if(ok: bool, stop: usize) -> Field
-    ensures { λ r. ⌜ r ≡ behindIf ok stop ⌝ }
+fn after_if(ok: bool, stop: usize) -> Field
+    ensures { λ r. ⌜ r ≡ afterIf ok stop ⌝ }
 {
     if ok {
         return Field::Behind(stop);
@@ -55,7 +53,7 @@ fn behind_if(ok: bool, stop: usize) -> Field
 fn is_entered(body: usize, tag: u8, depth: usize) -> bool
     ensures { λ r. ⌜ r ≡ entered body tag depth ⌝ }
 {
-    (body != FREE_ROW) & ((tag != SET) & ((depth != 0) & der::is_constructed(tag)))
+    (body != FREE_ROW) & ((tag != der::SET) & ((depth != 0) & der::is_constructed(tag)))
 }
 
 // Any other element, by the two checks.
@@ -97,14 +95,14 @@ fn conform_field(
         return left_out(row.kind, at, at);
     }
     let e = der::element_at(s, at, stop);
-    if !e.good {
+    if !e.valid {
         return Field::Breaks(at);
     }
     if row.kind == ANY_OPTIONAL {
-        return behind_if(is_kept(der::check_element(s, e, depth)), e.stop);
+        return after_if(is_kept(der::check_element(s, e, depth)), e.stop);
     }
     if row.kind == ONE {
-        return behind_if(
+        return after_if(
             conform_row(table, given, row.body, s, at, e.stop, depth),
             e.stop,
         );
@@ -113,12 +111,12 @@ fn conform_field(
         return left_out(row.kind, at, at);
     }
     if is_entered(row.body, e.tag, depth) {
-        return behind_if(
+        return after_if(
             conform_row(table, given, row.body, s, e.start, e.stop, depth - 1),
             e.stop,
         );
     }
-    behind_if(conform_leaf(table, given, row.body, s, e, depth), e.stop)
+    after_if(conform_leaf(table, given, row.body, s, e, depth), e.stop)
 }
 
 // As fit_rest.
@@ -150,7 +148,7 @@ fn conform_rest(
         row.kind - RULES,
         row.argument,
         given,
-        octets::part(s, at, stop),
+        octets::slice(s, at, stop),
     )
 }
 
@@ -197,7 +195,7 @@ fn conform_each(
     let mut i = at;
     while i < stop {
         let e = der::element_at(s, i, stop);
-        if !e.good {
+        if !e.valid {
             return false;
         }
         if !conform_row(table, given, n, s, i, e.stop, depth) {

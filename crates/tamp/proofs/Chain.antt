@@ -1,4 +1,4 @@
--- 01, Answers: the house refusals 201 to 204 in their order, and what comes behind them.
+-- 01, Answers: the house refusals 201 to 204 in their order, and what comes after them.
 use Prim.Native.Nat.{ℕ, _≤_, _<_}
 use mathlib.Core.Bool.{Bool, true, false, not, _&&_, _||_, true≢false}
 use mathlib.Core.List.{List}
@@ -10,7 +10,7 @@ use borrow.Author.Tests.{not-false, ltb-false, lt-ltb, le-ltb}
 use Rattle.octets.specs.declared.Status.{Status}
 use Rattle.octets.specs.Status.{success, badImage, badVerdict, smallBuffer, longMessage}
 use Rattle.octets.specs.Limits.{replyRoom, imageRoom, maxMessage}
-use Rattle.octets.specs.First.{givenIf, refuses, orIf}
+use Rattle.octets.specs.First.{givenIf, refuses, orStatus}
 use Rattle.octets.specs.Lists.{allOf}
 use Rattle.octets.proofs.Lists.{neither}
 use Rattle.octets.proofs.First.{first-row, row-if, row-passes}
@@ -21,7 +21,7 @@ use Rattle.image.specs.Check.{isGiven, isImage}
 use Rattle.protocol.specs.Acceptance.{judgement}
 use Rattle.protocol.specs.Call.{Outcome, refused, row-202, row-203, row-204, answerOf, guarded, callOn, callOf, call}
 use Rattle.tamp.specs.declared.Answer.{Answer}
-use Rattle.tamp.specs.Left.{left, leaves, refusal}
+use Rattle.tamp.specs.Left.{resultOf, resultFor, houseRefusal}
 use Rattle.tamp.specs.Given.{isVerdict, Rooms, Stored}
 use Rattle.tamp.proofs.Answers.{refused-leaves}
 
@@ -43,13 +43,13 @@ stored image e = go (decode image) refl e
 
 -- the call's promise, at each of its ways out
 abbrev pub Promise : List ℕ → List ℕ → List ℕ → List ℕ → List ℕ → Answer → List ℕ → List ℕ → Type 0
-Promise s image verdict reply next r reply′ next′ = left r reply′ next′ ≡ leaves (call s image verdict (length reply) (length next)) reply next
+Promise s image verdict reply next r reply′ next′ = resultOf r reply′ next′ ≡ resultFor (call s image verdict (length reply) (length next)) reply next
 
 module _ (s image verdict reply next : List ℕ) where
-  -- what comes behind 204, by the store of the image
-  pub behind : Option Store → Outcome
-  behind none = refused badImage
-  behind (some σ) = guarded (answerOf s image σ (judgement σ verdict s))
+  -- what comes after 204, by the store of the image
+  pub after : Option Store → Outcome
+  after none = refused badImage
+  after (some σ) = guarded (answerOf s image σ (judgement σ verdict s))
 
   row-202-is : (σ : Store) → decode image ≡ some σ → row-202 σ verdict ≡ not (isVerdict image verdict)
   unfolding row-202
@@ -61,8 +61,8 @@ module _ (s image verdict reply next : List ℕ) where
       (givenIf (not (isVerdict image verdict)) (refused badVerdict)
       (givenIf (ltb (length reply) replyRoom || ltb (length next) imageRoom) (refused smallBuffer)
       (givenIf (ltb maxMessage (length s)) (refused longMessage)
-      (behind (decode image)))))
-  unfolding call callOf callOn row-203 row-204 givenIf behind
+      (after (decode image)))))
+  unfolding call callOf callOn row-203 row-204 givenIf after
   rows = go (decode image) refl
     where
       go : (o : Option Store) → decode image ≡ o
@@ -71,20 +71,20 @@ module _ (s image verdict reply next : List ℕ) where
           (givenIf (not (isVerdict image verdict)) (refused badVerdict)
           (givenIf (ltb (length reply) replyRoom || ltb (length next) imageRoom) (refused smallBuffer)
           (givenIf (ltb maxMessage (length s)) (refused longMessage)
-          (behind o))))
+          (after o))))
       go none d = refl
       go (some σ) d = rw (row-202-is σ d)
 
   -- what a status says that the rows 201 to 204 have given
   pub record Housed (status : Status) : Type 0 where
-    pub outcome : call s image verdict (length reply) (length next) ≡ givenIf (refuses status) (refused status) (behind (decode image))
+    pub outcome : call s image verdict (length reply) (length next) ≡ givenIf (refuses status) (refused status) (after (decode image))
     pub passes : refuses status ≡ false → Rooms s reply next × Stored image
 
   -- from the code's tests, and its status after each row
   module _ {x y z : Bool} (i : x ≡ isImage image) (v : y ≡ isVerdict image verdict) (m : z ≡ (ltb (length reply) replyRoom || ltb (length next) imageRoom))
-      {c1 c2 c3 c4 : Status} (r1 : c1 ≡ orIf success (not x) badImage) (r2 : c2 ≡ orIf c1 (not y) badVerdict) (r3 : c3 ≡ orIf c2 z smallBuffer)
-      (r4 : c4 ≡ orIf c3 (ltb maxMessage (length s)) longMessage) where
-    given-first : call s image verdict (length reply) (length next) ≡ givenIf (refuses c4) (refused c4) (behind (decode image))
+      {c1 c2 c3 c4 : Status} (r1 : c1 ≡ orStatus success (not x) badImage) (r2 : c2 ≡ orStatus c1 (not y) badVerdict) (r3 : c3 ≡ orStatus c2 z smallBuffer)
+      (r4 : c4 ≡ orStatus c3 (ltb maxMessage (length s)) longMessage) where
+    given-first : call s image verdict (length reply) (length next) ≡ givenIf (refuses c4) (refused c4) (after (decode image))
     given-first =
         rows
         ∙ first-row refused _
@@ -112,17 +112,17 @@ module _ (s image verdict reply next : List ℕ) where
     housed = record { outcome = given-first; passes = none-applies }
 
   module _ {status : Status} (given : Housed status) {r : Answer} where
-    pub call-refused : refuses status ≡ true → r ≡ refusal status → Promise s image verdict reply next r reply next
+    pub call-refused : refuses status ≡ true → r ≡ houseRefusal status → Promise s image verdict reply next r reply next
     unfolding givenIf
     call-refused h a =
-        ap (λ (r : Answer). left r reply next) a
+        ap (λ (r : Answer). resultOf r reply next) a
         ∙ refused-leaves status reply next
-        ∙ ap (λ (o : Outcome). leaves o reply next) (sym (given .outcome ∙ rw h))
+        ∙ ap (λ (o : Outcome). resultFor o reply next) (sym (given .outcome ∙ rw h))
 
     pub call-answer : {reply′ next′ : List ℕ} → refuses status ≡ false
-        → ((σ : Store) → decode image ≡ some σ → left r reply′ next′ ≡ leaves (guarded (answerOf s image σ (judgement σ verdict s))) reply next)
+        → ((σ : Store) → decode image ≡ some σ → resultOf r reply′ next′ ≡ resultFor (guarded (answerOf s image σ (judgement σ verdict s))) reply next)
         → Promise s image verdict reply next r reply′ next′
-    unfolding givenIf behind
+    unfolding givenIf after
     call-answer h f =
         let g = given .passes h .1 in
-        f (g .store) (g .decodes) ∙ ap (λ (o : Outcome). leaves o reply next) (sym (given .outcome ∙ rw (h, g .decodes)))
+        f (g .store) (g .decodes) ∙ ap (λ (o : Outcome). resultFor o reply next) (sym (given .outcome ∙ rw (h, g .decodes)))

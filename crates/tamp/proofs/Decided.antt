@@ -15,7 +15,7 @@ use Rattle.protocol.specs.Effect.{effect}
 use Rattle.protocol.specs.Call.{answered, guarded, refusalReply, answerOf}
 use Rattle.accept.specs.Judged.{judgedIn}
 use Rattle.accept.proofs.OfStore.{judged-store}
-use Rattle.tamp.specs.Left.{Left, leaves}
+use Rattle.tamp.specs.Left.{CallResult, resultFor}
 use Rattle.tamp.specs.Given.{Rooms, Stored, Signed}
 use Rattle.tamp.proofs.Signers.{signed}
 
@@ -29,14 +29,14 @@ module _ (s image verdict : List ℕ) (o : Octets image) {j : Judgement} (f : j 
       → Rooms s reply next × Signed s q i image
   accepted-given rooms g e = (rooms, signed (g .store) s image verdict (g .decodes) (sym (by-store (g .store) (g .decodes)) ∙ e))
 
-  module _ (reply next : List ℕ) (σ : Store) (d : decode image ≡ some σ) {z : Left} where
-    pub refused-by : {r : Refusal} → j ≡ Refuses r → z ≡ leaves (guarded (answered (r .status) (refusalReply s r) image)) reply next
-        → z ≡ leaves (guarded (answerOf s image σ (judgement σ verdict s))) reply next
+  module _ (reply next : List ℕ) (σ : Store) (d : decode image ≡ some σ) {z : CallResult} where
+    pub refused-by : {r : Refusal} → j ≡ Refuses r → z ≡ resultFor (guarded (answered (r .status) (refusalReply s r) image)) reply next
+        → z ≡ resultFor (guarded (answerOf s image σ (judgement σ verdict s))) reply next
     unfolding answerOf
-    refused-by e a = a ∙ ap (λ (j : Judgement). leaves (guarded (answerOf s image σ j)) reply next) (sym e ∙ by-store σ d)
+    refused-by e a = a ∙ ap (λ (j : Judgement). resultFor (guarded (answerOf s image σ j)) reply next) (sym e ∙ by-store σ d)
 
     pub accepted-by : {q : Request} {i : ℕ} → j ≡ Accepts q i
-        → (let e = effect s q i σ in z ≡ leaves (guarded (answered (e .status) (e .reply) (encode (e .store)))) reply next)
-        → z ≡ leaves (guarded (answerOf s image σ (judgement σ verdict s))) reply next
+        → (let e = effect s q i σ in z ≡ resultFor (guarded (answered (e .status) (e .reply) (encode (e .store)))) reply next)
+        → z ≡ resultFor (guarded (answerOf s image σ (judgement σ verdict s))) reply next
     unfolding answerOf
-    accepted-by e a = a ∙ ap (λ (j : Judgement). leaves (guarded (answerOf s image σ j)) reply next) (sym e ∙ by-store σ d)
+    accepted-by e a = a ∙ ap (λ (j : Judgement). resultFor (guarded (answerOf s image σ j)) reply next) (sym e ∙ by-store σ d)

@@ -6,9 +6,9 @@ use mathlib.Core.Option.{some}
 use mathlib.Core.Path.{_≡_, ap, ap₂}
 use lib.ListN.{length, length-take, length-drop}
 use Rattle.octets.specs.Limits.{imageRoom, maxMessage}
-use Rattle.octets.specs.Octets.{Octets, part}
+use Rattle.octets.specs.Octets.{Octets, slice}
 use Rattle.der.specs.declared.Element.{Element}
-use Rattle.der.specs.Element.{whole, contents}
+use Rattle.der.specs.Element.{encoding, contents}
 use Rattle.store.specs.Store.{Store, identifiers}
 use Rattle.store.specs.Image.{decode}
 use Rattle.store.specs.Records.{recordsOf}
@@ -17,14 +17,14 @@ use Rattle.store.proofs.RoundTrip.{encode-decode, decode-wellFormed}
 use Rattle.store.proofs.Sizes.{encode-length}
 use Rattle.store.proofs.Parts.{parts, identifiers-of}
 
-length-part : (s : List ℕ) (a e : ℕ) → length (part s a e) ≤ length s
-length-part s a e = simp (length-take, length-drop) (omega arith)
+length-slice : (s : List ℕ) (a e : ℕ) → length (slice s a e) ≤ length s
+length-slice s a e = simp (length-take, length-drop) (omega arith)
 
-pub whole-short : (s : List ℕ) (e : Element) → length (whole s e) ≤ length s
-whole-short s e = length-part s (e .at) (e .stop)
+pub whole-short : (s : List ℕ) (e : Element) → length (encoding s e) ≤ length s
+whole-short s e = length-slice s (e .at) (e .stop)
 
 pub contents-short : (s : List ℕ) (e : Element) → length (contents s e) ≤ length s
-contents-short s e = length-part s (e .start) (e .stop)
+contents-short s e = length-slice s (e .start) (e .stop)
 
 -- "The largest image is 33,717 octets."
 pub image-short : (image : List ℕ) (σ : Store) → Octets image → decode image ≡ some σ → length image ≤ imageRoom
@@ -37,7 +37,7 @@ listed-of f image σ d = ap₂ f (identifiers-of image σ d) (parts image σ d .
 
 -- parts of a short message are short
 module _ (s : List ℕ) (e : Element) {m : List ℕ} (short : length s ≤ maxMessage) where
-  pub whole-fits : m ≡ whole s e → length m ≤ maxMessage
+  pub whole-fits : m ≡ encoding s e → length m ≤ maxMessage
   whole-fits f = omega (arith, ap length f, whole-short s e)
 
   pub contents-fits : m ≡ contents s e → length m ≤ maxMessage

@@ -10,10 +10,10 @@ use lib.Seq.{split-at, length-take-le}
 use Rattle.octets.specs.Limits.{imageRoom}
 use Rattle.octets.specs.First.{givenIf}
 use Rattle.octets.specs.Octets.{Octets, placed}
-use Rattle.octets.proofs.Placed.{length-placed, take-behind-placed}
+use Rattle.octets.proofs.Placed.{length-placed, take-after-placed}
 use Rattle.der.specs.Element.{contents, field}
-use Rattle.store.specs.declared.Found.{Found}
-use Rattle.store.specs.declared.Found.the-variants as found
+use Rattle.store.specs.declared.FoundSigner.{FoundSigner}
+use Rattle.store.specs.declared.FoundSigner.the-variants as found
 use Rattle.store.specs.Store.{Store, anchors, identifiers}
 use Rattle.store.specs.Image.{encodeNumber, encode, decode, wellFormed}
 use Rattle.store.specs.Parts.{placeOf}
@@ -32,14 +32,14 @@ use Rattle.message.proofs.Asked.{asked-number}
 use Rattle.message.proofs.Numbers.{readNumber, asked-seqNum}
 use Rattle.protocol.specs.declared.Judgement.{Judgement}
 use Rattle.protocol.specs.declared.Judgement.the-variants.{Refuses, Accepts}
-use Rattle.protocol.specs.Acceptance.{weighed, bySigner, judgementOf, judgement}
+use Rattle.protocol.specs.Acceptance.{judgedAt, bySigner, judgementOf, judgement}
 use Rattle.protocol.proofs.Lists.{given-next}
 use Rattle.protocol.proofs.Answer.{accepted-asks}
-use Rattle.protocol.proofs.WellFormed.{good-store, store-good, good-withNumber}
+use Rattle.protocol.proofs.WellFormed.{valid-store, store-valid, valid-withNumber}
 use Rattle.accept.proofs.Anchors.{signer-anchor}
 use Rattle.apply.proofs.Edits.{set-number-law}
 use Rattle.apply.specs.Scratch.{Holds, Scratch}
-use Rattle.tamp.specs.Given.{Signed, numberedBy, Writes, Renumbers}
+use Rattle.tamp.specs.Given.{Signed, numberedBy, Writes, WritesNumber}
 use Rattle.tamp.proofs.Parts.{image-short}
 
 -- the signer stands at a position of the store
@@ -47,14 +47,14 @@ module _ (σ : Store) (s : List ℕ) {q : Request} {i : ℕ} where
   Refuses≢Accepts : {r : Refusal} → Refuses r ≡ Accepts q i → ⊥
   Refuses≢Accepts e = let z : _≡_ {A = Bool} true false = cc in true≢false z
 
-  weighed-at : (q′ : Request) (j : ℕ) → weighed σ s q′ j ≡ Accepts q i → j ≡ i
-  unfolding weighed
+  weighed-at : (q′ : Request) (j : ℕ) → judgedAt σ s q′ j ≡ Accepts q i → j ≡ i
+  unfolding judgedAt
   weighed-at q′ j e = let z = row _ _ _ (row _ _ _ (row _ _ _ e)) in cc
     where
       row : (b : Bool) (r : Refusal) (j : Judgement) → givenIf b (Refuses r) j ≡ Accepts q i → j ≡ Accepts q i
       row b r j e = given-next b (Refuses r) j Refuses≢Accepts e
 
-  signer-at : (q′ : Request) (f : Found) → bySigner σ s q′ f ≡ Accepts q i → f ≡ found.At i
+  signer-at : (q′ : Request) (f : FoundSigner) → bySigner σ s q′ f ≡ Accepts q i → f ≡ found.At i
   unfolding bySigner
   signer-at q′ (found.At j) e = ap found.At (weighed-at q′ j e)
   signer-at q′ found.Unverified e = absurd (Refuses≢Accepts e)
@@ -83,10 +83,10 @@ module _ (s : List ℕ) (q : Request) (i : ℕ) (image : List ℕ) (os : Octets 
         ap (λ (m : List ℕ). placed m (placeOf m i) (encodeNumber (some (seqNumIn s (q .msgref))))) (sym held)
         ∙ set-number-law σ (decode-wellFormed image σ d) i (seqNumIn s (q .msgref)) inside
 
-    good-after : wellFormed (numberedBy s q i σ) ≡ true
-    good-after =
-        store-good (numberedBy s q i σ)
-        (good-withNumber i (seqNumIn s (q .msgref)) σ (asked-number s q asks os) (good-store σ (decode-wellFormed image σ d)))
+    valid-after : wellFormed (numberedBy s q i σ) ≡ true
+    valid-after =
+        store-valid (numberedBy s q i σ)
+        (valid-withNumber i (seqNumIn s (q .msgref)) σ (asked-number s q asks os) (valid-store σ (decode-wellFormed image σ d)))
 
     place-room : placeOf image i + 9 ≤ length image
     place-room =
@@ -119,7 +119,7 @@ module _ (s : List ℕ) (q : Request) (i : ℕ) (image next : List ℕ) (os : Oc
         omega (arith, ap length w, length-placed next 0 image copy-fits, image-short image (g .store) oi (g .decodes))
 
     pub renumber-done : {n : ℕ} {next″ : List ℕ} → n ≡ readNumber s (field 0x02 s (q .msgref)) → next″ ≡ placed next′ p (encodeNumber (some n))
-        → Renumbers s q i image next (length image) next″
+        → WritesNumber s q i image next (length image) next″
     renumber-done {n} {next″} f x σ d =
         let inside = signed-inside s q i image g σ d in
         let number = encodeNumber (some (seqNumIn s (q .msgref))) in
@@ -127,7 +127,7 @@ module _ (s : List ℕ) (q : Request) (i : ℕ) (image next : List ℕ) (os : Oc
         let h = place-room s q i image os oi (g .asks) σ d inside in
         let k = number-in s q i image os oi (g .asks) σ d inside in
         record {
-          good = good-after s q i image os oi (g .asks) σ d inside;
+          valid = valid-after s q i image os oi (g .asks) σ d inside;
           size = sym (ap length (sym k) ∙ length-placed image (placeOf image i) number (omega arith));
           octets =
               x
@@ -140,15 +140,15 @@ module _ (s : List ℕ) (q : Request) (i : ℕ) (image next : List ℕ) (os : Oc
 -- the buffer that was written is a scratch image
 module _ {σ : Store} {d : List ℕ} {r : ℕ} {d′ : List ℕ} (w : Writes σ d r d′) (room : imageRoom ≤ length d) where
   pub written-room : length d′ ≡ length d
-  written-room = ap length (w .octets) ∙ length-placed d 0 (encode σ) (omega (arith, encode-length σ (w .good)))
+  written-room = ap length (w .octets) ∙ length-placed d 0 (encode σ) (omega (arith, encode-length σ (w .valid)))
 
   pub written-holds : Holds σ d′ r
   written-holds =
       let z : r ≡ 0 + length (encode σ) = omega (arith, w .size) in
       record {
-        image = ap₂ take z (w .octets) ∙ take-behind-placed d 0 (encode σ) (omega arith);
-        inside = omega (arith, w .size, written-room, encode-length σ (w .good));
-        good = w .good;
+        image = ap₂ take z (w .octets) ∙ take-after-placed d 0 (encode σ) (omega arith);
+        inside = omega (arith, w .size, written-room, encode-length σ (w .valid));
+        valid = w .valid;
       }
 
   pub written-scratch : Scratch d′ r

@@ -11,7 +11,7 @@ use Rattle.rights.specs.Rights.{Content}
 use Rattle.store.specs.Store.{Store}
 use Rattle.store.specs.Image.{decode}
 use Rattle.store.specs.Records.{recordsOf}
-use Rattle.protocol.specs.Demand3.{Given, Unauthorised, authorising}
+use Rattle.protocol.specs.Demand3.{Inputs, Unauthorised, authorising}
 use Rattle.tamp.specs.declared.Answer.{Answer}
 use Rattle.tamp.specs.Left.{Promise}
 
@@ -31,26 +31,26 @@ abbrev pub Promised : List ℕ → Made → Type 0
 Promised image m = Promise (m .message) image (m .verdict) (m .reply) (m .next) (m .answer) (m .replyAfter) (m .nextAfter)
 
 -- "A call leaves its next store, or after a house refusal the store it was given": the host reads it from the answer and the buffer
-unfoldable pub leftOf : List ℕ → Made → List ℕ
-leftOf image m = elim (leb 201 (m .answer .number)) [ true ↦ image | false ↦ take (m .answer .«next_len») (m .nextAfter) ]
+unfoldable pub storeAfterCall : List ℕ → Made → List ℕ
+storeAfterCall image m = elim (leb 201 (m .answer .number)) [ true ↦ image | false ↦ take (m .answer .«next_len») (m .nextAfter) ]
 
 unfoldable pub afterAll : List ℕ → List Made → List ℕ
 afterAll image [] = image
-afterAll image (m ∷ ms) = afterAll (leftOf image m) ms
+afterAll image (m ∷ ms) = afterAll (storeAfterCall image m) ms
 
 -- each call kept its promise on the image that it was given
 abbrev pub Kept : List ℕ → List Made → Type 0
 Kept image [] = Unit {0}
-Kept image (m ∷ ms) = Promised image m × Kept (leftOf image m) ms
+Kept image (m ∷ ms) = Promised image m × Kept (storeAfterCall image m) ms
 
 -- what the rule book's call is given
-abbrev pub given : Made → Given
-given m =
+abbrev pub inputs : Made → Inputs
+inputs m =
     record { message = m .message; octets = m .octets; verdict = m .verdict; replyLent = length (m .reply); nextLent = length (m .next) }
 
 -- demand 3 (protocol, specs/Demand3) of what the calls left
 abbrev pub Demand3OfCode : Type 0
 Demand3OfCode =
     (image : List ℕ) (σ : Store) → Octets image → decode image ≡ some σ →
-    (content : Content) (calls : List Made) → Kept image calls → Unauthorised content image (map given calls) →
+    (content : Content) (calls : List Made) → Kept image calls → Unauthorised content image (map inputs calls) →
     authorising content (recordsOf (afterAll image calls)) ≡ authorising content (recordsOf image)

@@ -46,10 +46,10 @@ numberedBy s q i σ = withNumber i (seqNumIn s (q .msgref)) σ
 
 -- d with the image of σ written into it, r octets
 pub record Writes (σ : Store) (d : List ℕ) (r : ℕ) (d′ : List ℕ) : Type 0 where
-  pub good : wellFormed σ ≡ true
+  pub valid : wellFormed σ ≡ true
   pub size : r ≡ length (encode σ)
   pub octets : d′ ≡ placed d 0 (encode σ)
 
 -- .. of the image's store with the signer's number set
-abbrev pub Renumbers : List ℕ → Request → ℕ → List ℕ → List ℕ → ℕ → List ℕ → Type 0
-Renumbers s q i image d r d′ = (σ : Store) → decode image ≡ some σ → Writes (numberedBy s q i σ) d r d′
+abbrev pub WritesNumber : List ℕ → Request → ℕ → List ℕ → List ℕ → ℕ → List ℕ → Type 0
+WritesNumber s q i image d r d′ = (σ : Store) → decode image ≡ some σ → Writes (numberedBy s q i σ) d r d′

@@ -9,11 +9,11 @@ use Rattle.store.specs.Store.{Store}
 use Rattle.store.specs.Image.{encode, decode}
 use Rattle.message.specs.declared.Request.{Request}
 use Rattle.protocol.specs.Effect.{effect}
-use Rattle.protocol.specs.Call.{Outcome, answered, guarded, call, numberOf, replyOf, nextOf, replyBuffer, nextBuffer}
+use Rattle.protocol.specs.Call.{Outcome, answered, guarded, call, outcomeNumber, replyOf, nextOf, replyBuffer, nextBuffer}
 use Rattle.tamp.specs.declared.Answer.{Answer}
 
 -- the number, both lengths, and every octet of both buffers
-pub record Left : Type 0 where
+pub record CallResult : Type 0 where
   pub number : ℕ
   pub replyLength : ℕ
   pub nextLength : ℕ
@@ -21,14 +21,14 @@ pub record Left : Type 0 where
   pub next : List ℕ
 
 -- the code's answer, and its buffers at exit
-abbrev pub left : Answer → List ℕ → List ℕ → Left
-left r reply next = record { number = r .number; replyLength = r .«reply_len»; nextLength = r .«next_len»; reply = reply; next = next }
+abbrev pub resultOf : Answer → List ℕ → List ℕ → CallResult
+resultOf r reply next = record { number = r .number; replyLength = r .«reply_len»; nextLength = r .«next_len»; reply = reply; next = next }
 
 -- the rule book's outcome, on the buffers that were lent
-unfoldable pub leaves : Outcome → List ℕ → List ℕ → Left
-leaves o reply next =
+unfoldable pub resultFor : Outcome → List ℕ → List ℕ → CallResult
+resultFor o reply next =
     record {
-      number = numberOf o .number;
+      number = outcomeNumber o .number;
       replyLength = length (replyOf o);
       nextLength = length (nextOf o);
       reply = replyBuffer o reply;
@@ -38,22 +38,22 @@ leaves o reply next =
 -- the promise of `tamp_call`, here and in its source: number, both lengths and every octet of both lent buffers are what the rule book's call leaves
 abbrev pub Promise : List ℕ → List ℕ → List ℕ → List ℕ → List ℕ → Answer → List ℕ → List ℕ → Type 0
 Promise message image verdict reply next r reply′ next′ =
-    left r reply′ next′ ≡ leaves (call message image verdict (length reply) (length next)) reply next
+    resultOf r reply′ next′ ≡ resultFor (call message image verdict (length reply) (length next)) reply next
 
 -- the two constructors of an answer
-abbrev pub refusal : Status → Answer
-refusal status = record { number = status .number; «reply_len» = 0; «next_len» = 0 }
+abbrev pub houseRefusal : Status → Answer
+houseRefusal status = record { number = status .number; «reply_len» = 0; «next_len» = 0 }
 
 abbrev pub answer : Status → ℕ → ℕ → Answer
 answer status reply next = record { number = status .number; «reply_len» = reply; «next_len» = next }
 
 -- the code answers with a status, a reply and a next store, unless the reply is too long (205)
-abbrev pub Answers : Status → List ℕ → List ℕ → Answer → List ℕ → List ℕ → List ℕ → List ℕ → Type 0
-Answers status said store r reply next reply′ next′ = left r reply′ next′ ≡ leaves (guarded (answered status said store)) reply next
+abbrev pub AnswersWith : Status → List ℕ → List ℕ → Answer → List ℕ → List ℕ → List ℕ → List ℕ → Type 0
+AnswersWith status said store r reply next reply′ next′ = resultOf r reply′ next′ ≡ resultFor (guarded (answered status said store)) reply next
 
 -- .. to request q of the anchor at position i: by its effect on the store of the image
 abbrev pub AnswersTo : List ℕ → Request → ℕ → List ℕ → Answer → List ℕ → List ℕ → List ℕ → List ℕ → Type 0
 AnswersTo s q i image r reply next reply′ next′ =
     (σ : Store) → decode image ≡ some σ →
     let e = effect s q i σ in
-    Answers (e .status) (e .reply) (encode (e .store)) r reply next reply′ next′
+    AnswersWith (e .status) (e .reply) (encode (e .store)) r reply next reply′ next′

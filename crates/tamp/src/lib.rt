@@ -10,16 +10,16 @@ ghost use Rattle.octets.specs.Limits.{imageRoom, replyRoom};
 ghost use Rattle.octets.specs.Lists.{allOf};
 ghost use Rattle.octets.specs.Octets.{placed};
 ghost use Rattle.octets.specs.Status.{success};
-ghost use Rattle.der.specs.Element.{whole as wholeOf, contents as contentsOf};
+ghost use Rattle.der.specs.Element.{encoding as encodingOf, contents as contentsOf};
 ghost use Rattle.syntax.specs.declared.TampType.the-variants.{StatusQuery, Update, CommunityUpdate, SeqNumAdjust};
 ghost use Rattle.store.specs.Store.{Store};
 ghost use Rattle.store.specs.Image.{decode};
 ghost use Rattle.reply.specs.Replies.{tampError, updateConfirm};
-ghost use Rattle.reply.specs.Parts.{statusOf};
+ghost use Rattle.reply.specs.Parts.{statusNumbered};
 ghost use Rattle.protocol.specs.Acceptance.{judgement};
 ghost use Rattle.protocol.specs.Call.{answerOf, guarded, refusalReply};
-ghost use Rattle.tamp.specs.Left.{left, leaves, Promise, refusal as refusalOf, answer as answerWith, Answers, AnswersTo};
-ghost use Rattle.tamp.specs.Given.{isVerdict, Rooms, Stored, Signed, Renumbers};
+ghost use Rattle.tamp.specs.Left.{resultOf, resultFor, Promise, houseRefusal as refusalOf, answer as answerWith, AnswersWith, AnswersTo};
+ghost use Rattle.tamp.specs.Given.{isVerdict, Rooms, Stored, Signed, WritesNumber};
 use der::Element;
 use envelope::Refusal;
 use message::Request;
@@ -93,7 +93,7 @@ fn is_small(reply: usize, next: usize) -> bool
     next < octets::IMAGE_ROOM
 }
 
-// Writes the next store, behind a reply of n octets.
+// Writes the next store, after a reply of n octets.
 fn finish(status: Status, n: usize, store: &[u8], next: &mut [u8]) -> Answer
     requires { ⌜ length (now store) ≤ length (now next) ⌝ }
     ensures { λ r. ⌜ (r ≡ answerWith status n (length (now (store .entry))))
@@ -115,9 +115,9 @@ fn error(
 ) -> Answer
     requires { ⌜ Rooms (now s) (now reply) (now next) × (length (now store) ≤ imageRoom) ⌝ }
     ensures { λ r.
-        ⌜ Answers
+        ⌜ AnswersWith
         status
-        (tampError (contentsOf (now (s .entry)) about) status (wholeOf (now (s .entry)) msgref))
+        (tampError (contentsOf (now (s .entry)) about) status (encodingOf (now (s .entry)) msgref))
         (now (store .entry))
         r
         (now (reply .entry))
@@ -126,7 +126,7 @@ fn error(
         (now (next .exit)) ⌝ }
 {
     let msgtype = der::contents(s, about);
-    let repeated = der::whole(s, msgref);
+    let repeated = der::encoding(s, msgref);
     if octets::REPLY_ROOM < reply::error_size(msgtype, repeated) {
         return Answer::refusal(Status::LONG_REPLY);
     }
@@ -138,7 +138,7 @@ fn error(
 fn refuse(s: &[u8], r: Refusal, image: &[u8], reply: &mut [u8], next: &mut [u8]) -> Answer
     requires { ⌜ Rooms (now s) (now reply) (now next) × (length (now image) ≤ imageRoom) ⌝ }
     ensures { λ a.
-        ⌜ Answers
+        ⌜ AnswersWith
         (r .status)
         (refusalReply (now (s .entry)) r)
         (now (image .entry))
@@ -150,7 +150,7 @@ fn refuse(s: &[u8], r: Refusal, image: &[u8], reply: &mut [u8], next: &mut [u8])
 {
     let about = r.msgtype;
     let status = r.status;
-    if !about.good {
+    if !about.valid {
         return finish(status, 0, image, next);
     }
     error(s, about, status, r.msgref, image, reply, next)
@@ -159,10 +159,10 @@ fn refuse(s: &[u8], r: Refusal, image: &[u8], reply: &mut [u8], next: &mut [u8])
 // "its number becomes the signer's": writes the image with it. Gives its length.
 fn renumber(s: &[u8], q: Request, i: usize, image: &[u8], next: &mut [u8]) -> usize
     requires { ⌜ Signed (now s) q i (now image) × (imageRoom ≤ length (now next)) ⌝ }
-    ensures { λ r. ⌜ Renumbers (now (s .entry)) q i (now (image .entry)) (now (next .entry)) r (now (next .exit)) ⌝ }
+    ensures { λ r. ⌜ WritesNumber (now (s .entry)) q i (now (image .entry)) (now (next .entry)) r (now (next .exit)) ⌝ }
 {
     octets::copy_to(next, 0, image);
-    let n = message::number_in(s, der::field(s, q.msgref, 0x02));
+    let n = message::number_in(s, der::field(s, q.msgref, der::INTEGER));
     edit::set_number(next, store::record_place(image, i), n);
     image.len()
 }
@@ -216,7 +216,7 @@ fn adjust(s: &[u8], q: Request, i: usize, image: &[u8], reply: &mut [u8], next: 
     Answer::reply(Status::SUCCESS, n, k)
 }
 
-// Community Update: "call and confirm carry the code". Made on a scratch image: edits use octets behind the image, and those of the next store's buffer stay.
+// Community Update: "call and confirm carry the code". Made on a scratch image: edits use octets after the image, and those of the next store's buffer stay.
 fn community(
     s: &[u8],
     q: Request,
@@ -262,9 +262,9 @@ fn confirm<'a>(
 ) -> Answer
     requires { ⌜ Rooms (now s) (now reply) (now next) × (length (now codes) ≤ 16) × (length (now store) ≤ imageRoom) ⌝ }
     ensures { λ r.
-        ⌜ Answers
+        ⌜ AnswersWith
         success
-        (updateConfirm (wholeOf (now (s .entry)) (q .msgref)) (map statusOf (now (codes .entry))))
+        (updateConfirm (encodingOf (now (s .entry)) (q .msgref)) (map statusNumbered (now (codes .entry))))
         (now (store .entry))
         r
         (now (reply .entry))
@@ -297,8 +297,8 @@ fn update(s: &[u8], q: Request, i: usize, image: &[u8], reply: &mut [u8], next: 
 {
     let mut work = [0u8; 33717];
     let len = renumber(s, q, i, image, &mut work);
-    let count = message::count(s, message::updates_in(s, q.body, q.msgref));
-    if octets::MAX_UPDATES < count {
+    let entry_count = message::entry_count(s, message::updates_in(s, q.body, q.msgref));
+    if octets::MAX_UPDATES < entry_count {
         return error(
             s,
             q.msgtype,
@@ -311,7 +311,7 @@ fn update(s: &[u8], q: Request, i: usize, image: &[u8], reply: &mut [u8], next: 
     }
     let mut codes = [0u8; 16];
     let end = apply::update(s, q, image, i, &mut work, len, &mut codes);
-    confirm(s, q, &codes[..count], &work[..end], reply, next)
+    confirm(s, q, &codes[..entry_count], &work[..end], reply, next)
 }
 
 // An accepted request of the anchor at position i.
@@ -350,8 +350,8 @@ fn decide(message: &[u8], image: &[u8], verdict: &[u8], reply: &mut [u8], next: 
     requires { ⌜ Rooms (now message) (now reply) (now next) × Stored (now image) ⌝ }
     ensures { λ r.
         ⌜ ((σ : Store) → decode (now (image .entry)) ≡ some σ →
-        left r (now (reply .exit)) (now (next .exit))
-        ≡ leaves
+        resultOf r (now (reply .exit)) (now (next .exit))
+        ≡ resultFor
         (guarded (answerOf (now (message .entry)) (now (image .entry)) σ (judgement σ (now (verdict .entry)) (now (message .entry)))))
         (now (reply .entry))
         (now (next .entry))) ⌝ }
@@ -362,7 +362,7 @@ fn decide(message: &[u8], image: &[u8], verdict: &[u8], reply: &mut [u8], next: 
     }
 }
 
-// The call: 201 to 204 in their order, then 205 or the answer. The rows behind 201 are computed on any octets.
+// The call: 201 to 204 in their order, then 205 or the answer. The rows after 201 are computed on any octets.
 #[no_mangle]
 pub extern "C" fn tamp_call(
     message: &[u8],

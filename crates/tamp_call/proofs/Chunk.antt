@@ -4,12 +4,12 @@ use native.Mathlib.Omega.{arith}
 use mathlib.Core.List.{List}
 use mathlib.Core.Path.{_≡_, _∙_}
 use lib.ListN.{length, drop, length-take}
-use Rattle.octets.specs.Octets.{part, placed}
+use Rattle.octets.specs.Octets.{slice, placed}
 use Rattle.octets.proofs.Placed.{length-placed}
 use Rattle.store.specs.Listing.{hex}
 use Rattle.listing.proofs.Bounds.{length-hex}
 
-pub chunk-fits : (o : List ℕ) (i : ℕ) {s : List ℕ} → s ≡ part o i (i + 2048) → (text : List ℕ) → length text ≡ 4096 → 0 + length (hex s) ≤ length text
+pub chunk-fits : (o : List ℕ) (i : ℕ) {s : List ℕ} → s ≡ slice o i (i + 2048) → (text : List ℕ) → length text ≡ 4096 → 0 + length (hex s) ≤ length text
 chunk-fits o i {s} q text room =
     let l : length s ≤ 2048 = rw q (omega (arith, length-take (i + 2048 - i) (drop i o))) in
     omega (arith, length-hex s)

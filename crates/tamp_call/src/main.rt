@@ -11,7 +11,7 @@ fn print_octets(o: &[u8]) {
     let mut text = [0u8; 4096];
     let mut i = 0;
     while i < o.len() {
-        let n = listing::put_hex(&mut text, 0, octets::part(o, i, i + CHUNK));
+        let n = listing::put_hex(&mut text, 0, octets::slice(o, i, i + CHUNK));
         io::write_all(STDOUT_FILENO, &text[..n]);
         i += CHUNK;
     }
@@ -32,8 +32,8 @@ fn print_call(message: &[u8], image: &[u8], verdict: &[u8], reply: &mut [u8], ne
     io::write_all(STDOUT_FILENO, b"status ");
     io::print_decimal(STDOUT_FILENO, r.number as u64);
     io::write_all(STDOUT_FILENO, b"\n");
-    print_line(b"reply ", octets::part(reply, 0, r.reply_len as usize));
-    print_line(b"store ", octets::part(next, 0, r.next_len as usize));
+    print_line(b"reply ", octets::slice(reply, 0, r.reply_len as usize));
+    print_line(b"store ", octets::slice(next, 0, r.next_len as usize));
 }
 
 fn bad_call() -> bool {
@@ -74,7 +74,7 @@ fn number(head: &[u8; 20], at: usize) -> usize {
     octets::get_be(head, at, 4) as usize
 }
 
-// The call behind its head.
+// The call after its head.
 fn call(head: &[u8; 20]) -> bool {
     let mut message = [0u8; 16384];
     let mut image = [0u8; 131072];
@@ -94,9 +94,9 @@ fn call(head: &[u8; 20]) -> bool {
         return bad_call();
     }
     lend(
-        octets::part(&message, 0, m),
-        octets::part(&image, 0, n),
-        octets::part(&verdict, 0, v),
+        octets::slice(&message, 0, m),
+        octets::slice(&image, 0, n),
+        octets::slice(&verdict, 0, v),
         &mut reply,
         number(head, 12),
         &mut next,

@@ -1,4 +1,4 @@
-// Reads messages from standard input, each behind its length (4 octets, big-endian), and prints what depends on the message alone: the status and the offset
+// Reads messages from standard input, each after its length (4 octets, big-endian), and prints what depends on the message alone: the status and the offset
 // of a refusal by the rows up to 127, or what the message asks: its type, the signer's key identifier, its number, and how many entries an Update has.
 use envelope::Refusal;
 use libc::STDIN_FILENO;
@@ -57,10 +57,10 @@ fn print_request(s: &[u8], q: Request) {
     print_octets(message::key_identifier(s, q));
     print_field(
         b" number ",
-        message::number_in(s, der::field(s, q.msgref, 0x02)),
+        message::number_in(s, der::field(s, q.msgref, der::INTEGER)),
     );
     if let TampType::Update = kind {
-        let entries = message::count(s, message::updates_in(s, q.body, q.msgref));
+        let entries = message::entry_count(s, message::updates_in(s, q.body, q.msgref));
         print_field(b" entries ", entries as u64);
     }
     io::write_all(STDOUT_FILENO, b"\n");
@@ -101,7 +101,7 @@ fn next() -> bool {
     if !fill(&mut buffer, n) {
         return bad_input();
     }
-    print_message(octets::part(&buffer, 0, n));
+    print_message(octets::slice(&buffer, 0, n));
     true
 }
 

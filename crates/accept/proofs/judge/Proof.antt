@@ -32,7 +32,7 @@ returns-4 c =
     let wanted = c .before .before .before .before .before .key-identifier .ensures in
     let sought = c .before .before .before .before .find-signer .ensures in
     let at = c .before .before .i .given .1 in
-    c .weigh .ensures asks (found-record _ _ _ asks wanted sought at refl) ∙ judge-by _ _ _ asks wanted sought at
+    c .judge-at .ensures asks (found-record _ _ _ asks wanted sought at refl) ∙ judge-by _ _ _ asks wanted sought at
 
 pub judge-spec : {M : Type 1} → statement M
 judge-spec =

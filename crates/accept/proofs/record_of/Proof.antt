@@ -5,9 +5,6 @@ use Rattle.store.specs.Parts.{recordAt}
 use Rattle.accept.proofs.record_of.Statement.{statement}
 use Rattle.accept.proofs.record_of.Tie as tie
 
-returns : tie.Need-returns
-returns c = c .record-at .ensures ∙ ap (recordAt _) (c .before .record-place .ensures)
-
 pub record-of-spec : {M : Type 1} → statement M
 record-of-spec =
-    tie.close (tie.spec (λ c κs. search needs) (λ c κs. search needs) returns)
+    tie.close (tie.spec (λ c κs. search needs) (λ c κs. search needs) (λ c. c .record-at .ensures ∙ ap (recordAt _) (c .before .record-place .ensures)))

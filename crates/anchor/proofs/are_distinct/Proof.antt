@@ -3,8 +3,8 @@ use Prim.Native.Nat.{_-_}
 use borrow.Author.Needs.{needs}
 use mathlib.Core.List.{[]}
 use mathlib.Core.Path.{_≡_}
-use Rattle.der.specs.declared.Compared.the-variants.{Octets}
-use Rattle.der.specs.Element.{whole}
+use Rattle.der.specs.declared.Compared.the-variants.{Encodings}
+use Rattle.der.specs.Element.{encoding}
 use Rattle.der.specs.Keys.{keysFrom, keysIn}
 use Rattle.der.proofs.Runs.{run-less}
 use Rattle.anchor.proofs.Values.{rises, rise-first, rise-on, rise-all}
@@ -12,7 +12,7 @@ use Rattle.anchor.proofs.are_distinct.Statement.{statement}
 use Rattle.anchor.proofs.are_distinct.Tie as tie
 
 abbrev Inv-loop : tie.InvT-loop
-Inv-loop v set stop i₀ former₀ i former = rises (whole v former) (keysFrom Octets v i (set .stop)) ≡ rises [] (keysIn Octets v set)
+Inv-loop v set stop i₀ former₀ i former = rises (encoding v former) (keysFrom Encodings v i (set .stop)) ≡ rises [] (keysIn Encodings v set)
 
 abbrev μ-loop : tie.MeasureT-loop
 μ-loop v set stop i₀ former₀ i former = set .stop - i

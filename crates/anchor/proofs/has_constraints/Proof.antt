@@ -6,4 +6,4 @@ use Rattle.anchor.proofs.has_constraints.Statement.{statement}
 use Rattle.anchor.proofs.has_constraints.Tie as tie
 
 pub has-constraints-spec : {M : Type 1} → statement M
-has-constraints-spec = tie.close (tie.spec (λ c κs. search needs) (λ c. ap (λ (x : Element). x .good) (c .constraints-extension .ensures)))
+has-constraints-spec = tie.close (tie.spec (λ c κs. search needs) (λ c. ap (λ (x : Element). x .valid) (c .constraints-extension .ensures)))

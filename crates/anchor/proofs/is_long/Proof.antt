@@ -8,4 +8,4 @@ is-long-spec =
     tie.close
     (tie.spec
     (λ c κs. search needs)
-    (λ c. rw (c .whole .ensures)))
+    (λ c. rw (c .encoding .ensures)))

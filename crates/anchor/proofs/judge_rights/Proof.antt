@@ -4,7 +4,8 @@ use Prim.Native.Nat.{ℕ}
 use mathlib.Core.Path.{sym, _∙_}
 use borrow.Author.Tests.{lt-ltb, le-ltb}
 use Rattle.rights.specs.Constraints.{constraintsRights}
-use Rattle.anchor.proofs.Stages.{RightsPast, rights-start, passed, given, given-last, repeated-is, unlike-is, entries-is, attributes-is, values-is, octets-is}
+use Rattle.anchor.proofs.Stages.{RightsPast, rights-start, passed, given, given-last, repeated-is, unlike-is, entries-is, attributes-is, values-is}
+use Rattle.anchor.proofs.Stages.{octets-is}
 use Rattle.anchor.proofs.judge_rights.Statement.{statement}
 use Rattle.anchor.proofs.judge_rights.Tie as tie
 

@@ -6,4 +6,4 @@ use Rattle.anchor.proofs.public_key.Tie as tie
 
 pub public-key-spec : {M : Type 1} → statement M
 unfolding publicKey
-public-key-spec = tie.close (tie.spec (λ c κs. search needs) (λ c κs. search needs) (λ c κs. search needs) (λ c. rw (c .whole .ensures, c .before .field .ensures, c .before .before .root .ensures)))
+public-key-spec = tie.close (tie.spec (λ c κs. search needs) (λ c κs. search needs) (λ c κs. search needs) (λ c. rw (c .encoding .ensures, c .before .field .ensures, c .before .before .root .ensures)))

@@ -1,11 +1,11 @@
 -- `anchor::status` meets its contract. Assumes nothing.
 use borrow.Author.Needs.{needs}
-use Rattle.anchor.specs.Judge.{statusOf}
+use Rattle.anchor.specs.Judge.{checkStatus}
 use Rattle.anchor.proofs.status.Statement.{statement}
 use Rattle.anchor.proofs.status.Tie as tie
 
 pub status-spec : {M : Type 1} → statement M
-unfolding statusOf
+unfolding checkStatus
 status-spec =
     tie.close
     (tie.spec

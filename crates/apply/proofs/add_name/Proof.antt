@@ -6,14 +6,8 @@ use borrow.Author.Needs.{needs}
 use Rattle.apply.proofs.add_name.Statement.{statement}
 use Rattle.apply.proofs.add_name.Tie as tie
 
-slice-aggregate-has-name : tie.Need-slice-aggregate-has-name
-slice-aggregate-has-name c = sym (length-take-le _ _ (c .before .before .before .pre .section .inside))
-
 returns : tie.Need-returns
 returns c = add-present _ (c .before .before .before .before .before .pre) (c .before .has-name .ensures) (c .if1 .taken)
-
-slice-read-if2 : tie.Need-slice-read-if2
-slice-read-if2 c = omega (arith, c .before .before .before .before .before .before .pre .section .room)
 
 returns-2 : tie.Need-returns-2
 returns-2 c = add-none _ (c .before .before .before .before .before .before .before .pre) (c .before .before .before .has-name .ensures) (c .before .before .if1 .left) (c .if2 .taken)
@@ -29,11 +23,11 @@ add-name-spec =
     tie.close
     (tie.spec
     (λ c. search needs)
-    slice-aggregate-has-name
+    (λ c. sym (length-take-le _ _ (c .before .before .before .pre .section .inside)))
     (λ c κs. search needs)
     (λ c. search needs)
     returns
-    slice-read-if2
+    (λ c. omega (arith, c .before .before .before .before .before .before .pre .section .room))
     (λ c. search needs)
     returns-2
     join-requires

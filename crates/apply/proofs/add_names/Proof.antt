@@ -13,12 +13,6 @@ Inv-loop message names₀ len kept stop i₀ end₀ names i end = Joining messag
 abbrev μ-loop : tie.MeasureT-loop
 μ-loop message names₀ len kept stop i₀ end₀ names i end = stop - i
 
-slice-read-wide : tie.Need-slice-read-wide Inv-loop μ-loop
-slice-read-wide c = omega (arith, c .before .before .before .pre .section .room)
-
-loop-holds : tie.Need-loop-holds Inv-loop μ-loop
-loop-holds c = joining-start _ _ _ _ _ _ (c .before .before .before .before .pre) (c .wide .ensures)
-
 add-name-requires : tie.Need-add-name-requires Inv-loop μ-loop
 add-name-requires c κs = joining-addable _ _ _ _ _ _ (c .before .before .before .before .loop .inv) (c .before .before .before .loop-test .taken) (c .before .before .element-at .ensures) (c .contents .ensures) (c .before .before .before .before .before .before .before .before .before .pre)
 
@@ -34,21 +28,15 @@ loop-less c = oids-less _ _ _ (c .before .before .before .before .before .before
 loop-again : tie.Need-loop-again Inv-loop μ-loop
 loop-again c = joining-on _ _ _ _ _ _ (c .before .before .before .before .before .before .before .before .before .before .before .loop .inv) (c .before .before .before .before .before .before .before .before .before .before .loop-test .taken) (c .before .before .before .before .before .before .before .before .before .element-at .ensures) (c .before .before .before .before .before .before .before .contents .ensures) (c .before .before .before .before .before .before .add-name .ensures) (c .before .before .n .given .1) (c .next .ensures)
 
-same-length-2 : tie.Need-same-length-2 Inv-loop μ-loop
-same-length-2 c = c .before .loop .inv .same-room
-
-returns-2 : tie.Need-returns-2 Inv-loop μ-loop
-returns-2 c = joining-end _ _ _ _ _ _ (c .before .loop .inv) (c .loop-test .left)
-
 pub add-names-spec : {M : Type 1} → statement M
 add-names-spec =
     tie.close
     (tie.spec
     Inv-loop
     μ-loop
-    slice-read-wide
+    (λ c. omega (arith, c .before .before .before .pre .section .room))
     (λ c κs. search needs)
-    loop-holds
+    (λ c. joining-start _ _ _ _ _ _ (c .before .before .before .before .pre) (c .wide .ensures))
     (λ c κs. search needs)
     (λ c κs. search needs)
     add-name-requires
@@ -59,5 +47,5 @@ add-names-spec =
     (λ c κs. search needs)
     loop-less
     loop-again
-    same-length-2
-    returns-2)
+    (λ c. c .before .loop .inv .same-room)
+    (λ c. joining-end _ _ _ _ _ _ (c .before .loop .inv) (c .loop-test .left)))

@@ -6,17 +6,11 @@ use borrow.Author.Needs.{needs}
 use Rattle.apply.proofs.after_removals.Statement.{statement}
 use Rattle.apply.proofs.after_removals.Tie as tie
 
-slice-write-names : tie.Need-slice-write-names
-slice-write-names c = omega (arith, c .before .before .before .pre .1)
-
 returns : tie.Need-returns
 returns c = (search needs, removals-clear _ (c .before .before .before .before .before .args .removals) _ (c .before .clears .ensures) (c .if1 .taken) (c .before .before .before .before .before .args .names .now) (c .before .before .before .before .before .pre .1))
 
 keep-names-requires : tie.Need-keep-names-requires
 keep-names-requires c κs = (c .before .before .before .before .before .before .pre .0, section-start (c .before .before .before .before .before .before .args .names .now) (c .before .before .before .before .before .before .pre .1))
-
-same-length-2 : tie.Need-same-length-2
-same-length-2 c = c .before .before .keep-names .ensures .0 ∙ simp length-set
 
 returns-2 : tie.Need-returns-2
 returns-2 c = (c .before .before .keep-names .ensures .0 ∙ simp length-set, removals-keep _ (c .before .before .before .before .before .before .before .before .before .args .removals) _ (c .before .before .before .before .before .clears .ensures) (c .before .before .before .before .if1 .left) (c .before .before .keep-names .ensures .1))
@@ -25,10 +19,10 @@ pub after-removals-spec : {M : Type 1} → statement M
 after-removals-spec =
     tie.close
     (tie.spec
-    slice-write-names
+    (λ c. omega (arith, c .before .before .before .pre .1))
     (λ c κs. search needs)
     (λ c. search needs)
     returns
     keep-names-requires
-    same-length-2
+    (λ c. c .before .before .keep-names .ensures .0 ∙ simp length-set)
     returns-2)

@@ -6,12 +6,6 @@ use borrow.Author.Needs.{needs}
 use Rattle.apply.proofs.append.Statement.{statement}
 use Rattle.apply.proofs.append.Tie as tie
 
-slice-aggregate-anchor-place : tie.Need-slice-aggregate-anchor-place
-slice-aggregate-anchor-place c = sym (length-take-le _ _ (c .before .before .before .pre .holds .inside))
-
-slice-aggregate-anchor-count : tie.Need-slice-aggregate-anchor-count
-slice-aggregate-anchor-count c = sym (length-take-le _ _ (c .before .before .before .before .before .pre .holds .inside))
-
 add-items : tie.Need-add-items
 add-items c = omega (arith, few (c .before .before .before .before .before .before .pre .store) _ _ (c .before .before .before .before .before .before .pre .holds) (c .anchor-count .ensures))
 
@@ -37,10 +31,10 @@ append-spec =
     tie.close
     (tie.spec
     (λ c. search needs)
-    slice-aggregate-anchor-place
+    (λ c. sym (length-take-le _ _ (c .before .before .before .pre .holds .inside)))
     (λ c κs. search needs)
     (λ c. search needs)
-    slice-aggregate-anchor-count
+    (λ c. sym (length-take-le _ _ (c .before .before .before .before .before .pre .holds .inside)))
     (λ c κs. search needs)
     add-items
     (λ c. search needs)

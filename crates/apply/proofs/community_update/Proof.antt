@@ -13,12 +13,12 @@ returns-3 : tie.Need-returns-3
 returns-3 c =
     community-longer _ (c .before .before .before .before .before .before .before .before .before .before .before .args .q) _ _ (c .before .before .before .before .before .before .before .before .updates-in .ensures) (c .before .before .before .before .before .before .before .field .ensures) (c .before .before .before .before .before .before .field2 .ensures) (c .before .before .before .before .before .has-repeat .ensures) (c .before .before .before .before .if1 .left) (c .before .before .before .has-long .ensures) (c .before .before .if2 .left) (c .before .has-long2 .ensures) (c .if3 .taken)
 
-put-communities-requires : tie.Need-put-communities-requires
-put-communities-requires c κs =
+update-communities-requires : tie.Need-update-communities-requires
+update-communities-requires c κs =
     community-puttable _ (c .before .before .before .before .before .before .before .before .before .before .before .before .args .q) _ _ (c .before .before .before .before .before .before .before .before .before .updates-in .ensures) (c .before .before .before .before .before .before .before .before .field .ensures) (c .before .before .before .before .before .before .before .field2 .ensures) (c .before .before .before .before .before .before .before .before .before .before .before .before .pre) (c .before .before .before .before .before .before .has-repeat .ensures) (c .before .before .before .before .before .if1 .left) (c .before .before .before .before .has-long .ensures) (c .before .before .before .if2 .left) (c .before .before .has-long2 .ensures) (c .before .if3 .left)
 
 returns-4 : tie.Need-returns-4
-returns-4 c = community-done _ (c .before .before .before .before .before .before .before .before .before .before .before .before .before .before .before .args .q) _ _ (c .before .before .before .before .before .before .before .before .before .before .before .before .updates-in .ensures) (c .before .before .before .before .before .before .before .before .before .before .before .field .ensures) (c .before .before .before .before .before .before .before .before .before .before .field2 .ensures) (c .before .before .put-communities .ensures)
+returns-4 c = community-done _ (c .before .before .before .before .before .before .before .before .before .before .before .before .before .before .before .args .q) _ _ (c .before .before .before .before .before .before .before .before .before .before .before .before .updates-in .ensures) (c .before .before .before .before .before .before .before .before .before .before .before .field .ensures) (c .before .before .before .before .before .before .before .before .before .before .field2 .ensures) (c .before .before .update-communities .ensures)
 
 pub community-update-spec : {M : Type 1} → statement M
 community-update-spec =
@@ -33,6 +33,6 @@ community-update-spec =
     returns-2
     (λ c κs. search needs)
     returns-3
-    put-communities-requires
+    update-communities-requires
     (λ c. search needs)
     returns-4)

@@ -1,4 +1,5 @@
-use Rattle.apply.proofs.Entering.{Entering, entering-scratch, entering-adds, entering-few, entering-room, entering-on, entering-less, entering-end, entering-start, entering-count, entries-of}
+use Rattle.apply.proofs.Entering.{Entering, entering-scratch, entering-adds, entering-few, entering-room, entering-on, entering-less, entering-end}
+use Rattle.apply.proofs.Entering.{entering-start, entering-count, entries-of}
 use Rattle.apply.specs.Scratch.{signerRights}
 use Prim.Native.Nat.{_-_}
 use borrow.Author.Needs.{needs}
@@ -14,9 +15,6 @@ Inv-loop message image i work₀ len codes₀ stop at₀ end₀ old₀ n₀ work
 
 abbrev μ-loop : tie.MeasureT-loop
 μ-loop message image i work₀ len codes₀ stop at₀ end₀ old₀ n₀ work codes at end old n = stop - at
-
-slice-reshare-prefix-anchor-count : tie.Need-slice-reshare-prefix-anchor-count Inv-loop μ-loop
-slice-reshare-prefix-anchor-count c = c .before .before .before .before .before .pre .scratch .holds .inside
 
 slice-aggregate-anchor-count : tie.Need-slice-aggregate-anchor-count Inv-loop μ-loop
 slice-aggregate-anchor-count c = sym (length-take-le _ _ (c .before .before .before .before .before .before .pre .scratch .holds .inside))
@@ -42,12 +40,6 @@ loop-less c = entering-less _ _ _ _ _ _ _ (c .before .before .before .before .be
 loop-again : tie.Need-loop-again Inv-loop μ-loop
 loop-again c = entering-on _ _ _ _ _ _ _ (c .before .before .before .before .before .before .before .loop .inv) (c .before .before .before .before .before .before .loop-test .taken) (c .before .before .before .before .before .element-at .ensures) (c .before .before .before .enter .ensures) (c .next .ensures)
 
-same-length : tie.Need-same-length Inv-loop μ-loop
-same-length c = c .before .loop .inv .room
-
-same-length-2 : tie.Need-same-length-2 Inv-loop μ-loop
-same-length-2 c = c .before .loop .inv .size
-
 returns : tie.Need-returns Inv-loop μ-loop
 returns c = entering-end _ _ _ _ _ _ _ (c .before .loop .inv) (c .before .before .before .before .before .before .before .before .before .args .q) (entries-of _ (c .before .before .before .before .before .before .before .before .before .args .q) (c .before .before .before .before .updates-in .ensures)) (c .loop-test .left)
 
@@ -58,7 +50,7 @@ enter-all-spec =
     Inv-loop
     μ-loop
     (λ c κs. search needs)
-    slice-reshare-prefix-anchor-count
+    (λ c. c .before .before .before .before .before .pre .scratch .holds .inside)
     slice-aggregate-anchor-count
     (λ c κs. search needs)
     sub-old
@@ -70,6 +62,6 @@ enter-all-spec =
     (λ c κs. search needs)
     loop-less
     loop-again
-    same-length
-    same-length-2
+    (λ c. c .before .loop .inv .room)
+    (λ c. c .before .loop .inv .size)
     returns)

@@ -1,6 +1,6 @@
 use Rattle.apply.proofs.Oids.{oids-less, any-end, any-hit, any-miss}
 use Rattle.apply.specs.Names.{oidsFrom}
-use Rattle.octets.specs.Limits.{maxName}
+use Rattle.octets.specs.Limits.{maxNameOctets}
 use Rattle.octets.specs.Lists.{anyOf}
 use lib.Dec.{ltb}
 use lib.ListN.{length}
@@ -12,25 +12,22 @@ use Rattle.apply.proofs.has_long.Statement.{statement}
 use Rattle.apply.proofs.has_long.Tie as tie
 
 abbrev Inv-loop : tie.InvT-loop
-Inv-loop s stop i₀ i = anyOf (λ c. ltb maxName (length c)) (oidsFrom s stop i₀) ≡ anyOf (λ c. ltb maxName (length c)) (oidsFrom s stop i)
+Inv-loop s stop i₀ i = anyOf (λ c. ltb maxNameOctets (length c)) (oidsFrom s stop i₀) ≡ anyOf (λ c. ltb maxNameOctets (length c)) (oidsFrom s stop i)
 
 abbrev μ-loop : tie.MeasureT-loop
 μ-loop s stop i₀ i = stop - i
 
-loop-holds : tie.Need-loop-holds Inv-loop μ-loop
-loop-holds c = refl
-
 returns : tie.Need-returns Inv-loop μ-loop
-returns c = any-hit (λ c. ltb maxName (length c)) _ _ _ _ (c .before .before .before .before .loop .inv) (c .before .before .before .loop-test .taken) (c .before .before .element-at .ensures) (c .before .contents .ensures) (lt-ltb _ _ (c .if1 .taken))
+returns c = any-hit (λ c. ltb maxNameOctets (length c)) _ _ _ _ (c .before .before .before .before .loop .inv) (c .before .before .before .loop-test .taken) (c .before .before .element-at .ensures) (c .before .contents .ensures) (lt-ltb _ _ (c .if1 .taken))
 
 loop-less : tie.Need-loop-less Inv-loop μ-loop
 loop-less c = oids-less _ _ _ (c .before .before .before .before .loop-test .taken) (c .before .before .before .element-at .ensures) (c .next .ensures)
 
 loop-again : tie.Need-loop-again Inv-loop μ-loop
-loop-again c = any-miss (λ c. ltb maxName (length c)) _ _ _ _ (c .before .before .before .before .before .loop .inv) (c .before .before .before .before .loop-test .taken) (c .before .before .before .element-at .ensures) (c .before .before .contents .ensures) (le-ltb _ _ (c .before .if1 .left)) (c .next .ensures)
+loop-again c = any-miss (λ c. ltb maxNameOctets (length c)) _ _ _ _ (c .before .before .before .before .before .loop .inv) (c .before .before .before .before .loop-test .taken) (c .before .before .before .element-at .ensures) (c .before .before .contents .ensures) (le-ltb _ _ (c .before .if1 .left)) (c .next .ensures)
 
 returns-2 : tie.Need-returns-2 Inv-loop μ-loop
-returns-2 c = any-end (λ c. ltb maxName (length c)) _ _ _ _ (c .before .loop .inv) (c .loop-test .left)
+returns-2 c = any-end (λ c. ltb maxNameOctets (length c)) _ _ _ _ (c .before .loop .inv) (c .loop-test .left)
 
 pub has-long-spec : {M : Type 1} → statement M
 has-long-spec =
@@ -38,7 +35,7 @@ has-long-spec =
     (tie.spec
     Inv-loop
     μ-loop
-    loop-holds
+    (λ c. refl)
     (λ c κs. search needs)
     (λ c κs. search needs)
     returns

@@ -3,9 +3,6 @@ use borrow.Author.Needs.{needs}
 use Rattle.apply.proofs.is_within_signer.Statement.{statement}
 use Rattle.apply.proofs.is_within_signer.Tie as tie
 
-returns : tie.Need-returns
-returns c = within-apex _ _ (c .if1 .taken)
-
 returns-2 : tie.Need-returns-2
 returns-2 c =
     within-other _ _ (c .before .before .before .before .if1 .left) (c .before .before .before .info-at .ensures) (c .before .before .constraints-value .ensures) (c .before .constraints-value2 .ensures) (c .is-within .ensures)
@@ -14,7 +11,7 @@ pub is-within-signer-spec : {M : Type 1} → statement M
 is-within-signer-spec =
     tie.close
     (tie.spec
-    returns
+    (λ c. within-apex _ _ (c .if1 .taken))
     (λ c κs. search needs)
     (λ c κs. search needs)
     (λ c κs. search needs)

@@ -5,12 +5,6 @@ use borrow.Author.Needs.{needs}
 use Rattle.apply.proofs.join.Statement.{statement}
 use Rattle.apply.proofs.join.Tie as tie
 
-add-items : tie.Need-add-items
-add-items c = omega (arith, joinable-count (c .before .before .before .pre))
-
-replace-items-requires : tie.Need-replace-items-requires
-replace-items-requires c κs = joinable-bounds (c .before .before .before .before .before .pre)
-
 returns : tie.Need-returns
 returns c = join-done (c .before .before .before .before .before .before .before .before .pre) refl (c .before .before .replace-items .ensures) (search needs)
 
@@ -19,9 +13,9 @@ join-spec =
     tie.close
     (tie.spec
     (λ c. search needs)
-    add-items
+    (λ c. omega (arith, joinable-count (c .before .before .before .pre)))
     (λ c. search needs)
     (λ c. search needs)
-    replace-items-requires
+    (λ c κs. joinable-bounds (c .before .before .before .before .before .pre))
     (λ c. search needs)
     returns)

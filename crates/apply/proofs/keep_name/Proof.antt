@@ -8,12 +8,9 @@ returns : tie.Need-returns
 unfolding keyOf
 returns c = keep-none _ _ (c .before .occurs .ensures) (c .if1 .taken)
 
-join-requires : tie.Need-join-requires
-join-requires c κs = c .before .before .before .before .before .before .pre
-
 returns-2 : tie.Need-returns-2
 unfolding keyOf
 returns-2 c = keep-one _ _ (c .before .before .before .before .before .occurs .ensures) (c .before .before .before .before .if1 .left) (c .before .before .join .ensures)
 
 pub keep-name-spec : {M : Type 1} → statement M
-keep-name-spec = tie.close (tie.spec (λ c κs. search needs) returns join-requires (λ c. search needs) returns-2)
+keep-name-spec = tie.close (tie.spec (λ c κs. search needs) returns (λ c κs. c .before .before .before .before .before .before .pre) (λ c. search needs) returns-2)

@@ -18,14 +18,8 @@ loop-holds c = keeping-start _ _ _ (c .before .before .before .before .before .p
 keep-name-requires : tie.Need-keep-name-requires Inv-loop μ-loop
 keep-name-requires c κs = keeping-joinable _ _ _ _ (c .before .before .before .loop .inv) (c .before .before .loop-test .taken) (c .name-at .ensures)
 
-loop-less : tie.Need-loop-less Inv-loop μ-loop
-loop-less c = omega (arith, c .before .before .before .before .before .before .loop-test .taken)
-
 loop-again : tie.Need-loop-again Inv-loop μ-loop
 loop-again c = keeping-on _ _ _ _ (c .before .before .before .before .before .before .before .loop .inv) (c .before .before .before .before .before .before .loop-test .taken) (c .before .before .before .before .name-at .ensures) (c .before .before .before .keep-name .ensures) (c .name-end .ensures)
-
-same-length : tie.Need-same-length Inv-loop μ-loop
-same-length c = c .before .loop .inv .same-room
 
 returns : tie.Need-returns Inv-loop μ-loop
 returns c = (
@@ -46,7 +40,7 @@ keep-names-spec =
     keep-name-requires
     (λ c κs. search needs)
     (λ c. search needs)
-    loop-less
+    (λ c. omega (arith, c .before .before .before .before .before .before .loop-test .taken))
     loop-again
-    same-length
+    (λ c. c .before .loop .inv .same-room)
     returns)

@@ -4,19 +4,13 @@ use Rattle.apply.proofs.step.Statement.{statement}
 use Rattle.apply.proofs.step.Tie as tie
 
 add-requires : tie.Need-add-requires
-add-requires c κs = (c .before .before .before .before .before .before .before .before .pre .0, adding-conforms _ (c .before .before .before .before .before .before .before .before .pre .1) (c .before .before .before .entry .given .1) (c .whole .ensures))
+add-requires c κs = (c .before .before .before .before .before .before .before .before .pre .0, adding-conforms _ (c .before .before .before .before .before .before .before .before .pre .1) (c .before .before .before .entry .given .1) (c .encoding .ensures))
 
 returns : tie.Need-returns
-returns c = step-add _ _ (c .before .before .before .before .before .before .entry .given .1) (c .before .before .before .whole .ensures) (c .before .before .add .ensures)
-
-returns-2 : tie.Need-returns-2
-returns-2 c = step-certificate _ _ (c .enum-told .given .1)
+returns c = step-add _ _ (c .before .before .before .before .before .before .entry .given .1) (c .before .before .before .encoding .ensures) (c .before .before .add .ensures)
 
 returns-3 : tie.Need-returns-3
-returns-3 c = step-remove _ _ (c .before .before .before .before .before .before .entry2 .given .1) (c .before .before .before .whole2 .ensures) (c .before .before .remove .ensures)
-
-returns-4 : tie.Need-returns-4
-returns-4 c = step-change _ _ (c .enum-told2 .given .1)
+returns-3 c = step-remove _ _ (c .before .before .before .before .before .before .entry2 .given .1) (c .before .before .before .encoding2 .ensures) (c .before .before .remove .ensures)
 
 pub step-spec : {M : Type 1} → statement M
 step-spec =
@@ -32,7 +26,7 @@ step-spec =
     (λ c. search needs)
     (λ c. search needs)
     returns
-    returns-2
+    (λ c. step-certificate _ _ (c .enum-told .given .1))
     (λ c. search needs)
     returns-3
-    returns-4)
+    (λ c. step-change _ _ (c .enum-told2 .given .1)))

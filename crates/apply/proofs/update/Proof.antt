@@ -3,12 +3,12 @@ use borrow.Author.Needs.{needs}
 use Rattle.apply.proofs.update.Statement.{statement}
 use Rattle.apply.proofs.update.Tie as tie
 
-stamp-all-requires : tie.Need-stamp-all-requires
-stamp-all-requires c κs = update-numerable (c .before .before .before .before .before .before .before .before .before .before .before .before .pre) (c .before .before .before .before .before .enter-all .ensures)
+number-all-requires : tie.Need-number-all-requires
+number-all-requires c κs = update-numerable (c .before .before .before .before .before .before .before .before .before .before .before .before .pre) (c .before .before .before .before .before .enter-all .ensures)
 
 returns : tie.Need-returns
-returns c = update-done (c .before .before .before .before .before .before .before .before .before .before .before .before .before .before .before .pre) (c .before .before .before .before .before .before .before .before .enter-all .ensures) (c .before .before .stamp-all .ensures)
+returns c = update-done (c .before .before .before .before .before .before .before .before .before .before .before .before .before .before .before .pre) (c .before .before .before .before .before .before .before .before .enter-all .ensures) (c .before .before .number-all .ensures)
 
 pub update-spec : {M : Type 1} → statement M
 update-spec =
-    tie.close (tie.spec (λ c κs. search needs) stamp-all-requires (λ c. search needs) (λ c. search needs) returns)
+    tie.close (tie.spec (λ c κs. search needs) number-all-requires (λ c. search needs) (λ c. search needs) returns)

@@ -9,7 +9,7 @@ use Rattle.der.specs.Element.{elements}
 use Rattle.der.specs.Fit.{eachFrom, each}
 use Rattle.der.proofs.Runs.{run-less}
 use Rattle.der.proofs.Fits.{each-fits, each-fails, each-misplaced, each-later}
-use Rattle.der.proofs.Checks.{memberFit, each-first, der-deep, der-bad, der-run, der-leaf, der-good}
+use Rattle.der.proofs.Checks.{memberFit, each-first, der-deep, der-bad, der-run, der-leaf, der-valid}
 use borrow.Fn.Kinds.{In}
 use borrow.Fn.PlainCycle.{Measures, is, falls, and}
 use Rattle.der.proofs.check_contents.Reads as check-contents-reads
@@ -111,11 +111,11 @@ pub +check-element+check-run-spec : {M : Type 1} → statement M
     (λ c κs. search needs)
     (λ c κs. omega arith)
     (λ c. search needs)
-    (λ c. search (each-fails, der-good, needs))
+    (λ c. search (each-fails, der-valid, needs))
     (λ c. search needs)
     (λ c κs. search needs)
-    (λ c. search (each-misplaced, der-good, needs))
+    (λ c. search (each-misplaced, der-valid, needs))
     (λ c κs. search needs)
     (λ c. search (run-less, needs))
-    (λ c. search (each-later, der-good, needs))
+    (λ c. search (each-later, der-valid, needs))
     (λ c. search (each-fits, needs))

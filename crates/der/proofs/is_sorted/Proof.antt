@@ -15,7 +15,7 @@ returns-2 : tie.Need-returns-2
 returns-2 c =
     let a = c .before .before .before .before .before .args in
     c .in-order .ensures
-    ∙ ap₂ ordered (c .before .before .whole .ensures) (c .before .whole2 .ensures)
+    ∙ ap₂ ordered (c .before .before .encoding .ensures) (c .before .encoding2 .ensures)
     ∙ sym (sorted-set (a .tag) (a .s .now) (a .former) (a .e) (c .before .before .before .if1 .left))
 
 pub is-sorted-spec : {M : Type 1} → statement M

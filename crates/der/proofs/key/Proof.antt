@@ -17,4 +17,4 @@ key-spec =
     (λ c κs. search needs)
     (λ c. rw (c .before .enum-told .given .1, c .type-of .ensures))
     (λ c. rw (c .before .enum-told2 .given .1, c .contents .ensures))
-    (λ c. rw (c .before .enum-told3 .given .1, c .whole .ensures)))
+    (λ c. rw (c .before .enum-told3 .given .1, c .encoding .ensures)))

@@ -6,7 +6,7 @@ use native.Mathlib.Omega.{arith}
 use borrow.Author.Tests.{not-true, not-false}
 use Rattle.der.specs.Element.{elementAt, elements, inside}
 use Rattle.der.specs.Fit.{eachFrom, each}
-use Rattle.der.proofs.Elements.{good-within}
+use Rattle.der.proofs.Elements.{valid-within}
 use Rattle.der.proofs.Runs.{Reached, reached-none, reached-on}
 use Rattle.der.proofs.Fits.{then-fits, then-breaks, held-fits, held-breaks, each-start, each-end, each-broken, each-breaks, each-turn}
 use Rattle.der.specs.declared.Compared.the-variants.{Types}
@@ -78,7 +78,7 @@ loop-less c =
     let c10 = c6 .before .before .before .before in
     let a = c10 .before .before .before .before .before .before .args in
     let l = c10 .loop in
-    omega (arith, good-within (a .s .now) (l .at) (a .attributes .stop) (l .inv .0) (not-false _ (c6 .if2 .left)))
+    omega (arith, valid-within (a .s .now) (l .at) (a .attributes .stop) (l .inv .0) (not-false _ (c6 .if2 .left)))
 
 loop-again : tie.Need-loop-again Inv-loop μ-loop
 loop-again c =

@@ -11,13 +11,13 @@ use Rattle.envelope.proofs.is_in_place.Tie as tie
 returns : tie.Need-returns
 returns c =
     let a = c .before .before .before .before .before .args in
-    let o = ap₂ ordered (sym (c .before .before .before .whole .ensures)) (sym (c .before .before .whole2 .ensures)) ∙ sym (c .before .in-order .ensures) ∙ not-true _ (c .if1 .taken) in
+    let o = ap₂ ordered (sym (c .before .before .before .encoding .ensures)) (sym (c .before .before .encoding2 .ensures)) ∙ sym (c .before .in-order .ensures) ∙ not-true _ (c .if1 .taken) in
     sym (ap (λ (b : Bool). b && not (isAt (a .first) (a .e .at))) o)
 
 returns-2 : tie.Need-returns-2
 returns-2 c =
     let a = c .before .before .before .before .before .before .args in
-    let o = ap₂ ordered (sym (c .before .before .before .before .whole .ensures)) (sym (c .before .before .before .whole2 .ensures)) ∙ sym (c .before .before .in-order .ensures) ∙ not-false _ (c .before .if1 .left) in
+    let o = ap₂ ordered (sym (c .before .before .before .before .encoding .ensures)) (sym (c .before .before .before .encoding2 .ensures)) ∙ sym (c .before .before .in-order .ensures) ∙ not-false _ (c .before .if1 .left) in
     ap not (c .is-at .ensures) ∙ sym (ap (λ (b : Bool). b && not (isAt (a .first) (a .e .at))) o)
 
 pub is-in-place-spec : {M : Type 1} → statement M

@@ -28,9 +28,9 @@ about-at c = eContentType-is _ (encap-at (c .before)) (c .field4 .ensures)
 tag-at : (c : tie.After-field5) → c .field5 .result ≡ eContentTag (c .before .before .before .before .before .before .before .before .args .s .now)
 tag-at c = eContentTag-is _ (encap-at (c .before .before)) (c .field5 .ensures)
 
-infos-at : (c : tie.After-field-behind) → c .field-behind .result ≡ signerInfos (c .before .before .before .before .before .before .before .before .before .args .s .now)
+infos-at : (c : tie.After-field-after) → c .field-after .result ≡ signerInfos (c .before .before .before .before .before .before .before .before .before .args .s .now)
 infos-at c =
-    signerInfos-is _ (signed-at (c .before .before .before .before)) (encap-at (c .before .before .before)) (c .field-behind .ensures)
+    signerInfos-is _ (signed-at (c .before .before .before .before)) (encap-at (c .before .before .before)) (c .field-after .ensures)
 
 signer-at : (c : tie.After-field6) → c .field6 .result ≡ signerInfo (c .before .before .before .before .before .before .before .before .before .before .args .s .now)
 signer-at c = signerInfo-is _ (infos-at (c .before)) (c .field6 .ensures)

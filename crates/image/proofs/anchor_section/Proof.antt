@@ -7,7 +7,7 @@ use borrow.Author.Tests.{not-true, not-false}
 use Rattle.octets.specs.Limits.{maxAnchors}
 use Rattle.store.specs.Image.{readAnchor}
 use Rattle.store.proofs.Formats.{apart}
-use Rattle.image.specs.Check.{behind, restAt}
+use Rattle.image.specs.Check.{after, restAt}
 use Rattle.image.proofs.Checks.{section-over, section-broken, section-fails, section-holds, anchors-short, anchors-none, anchors-some, keys-read}
 use Rattle.image.proofs.anchor_section.Statement.{statement}
 use Rattle.image.proofs.anchor_section.Tie as tie
@@ -16,7 +16,7 @@ returns : tie.Need-returns
 returns c =
     let a = c .before .before .args in
     let s = a .image .now in
-    sym (ap behind (anchors-short s (a .p) (c .if1 .taken)))
+    sym (ap after (anchors-short s (a .p) (c .if1 .taken)))
 
 returns-2 : tie.Need-returns-2
 returns-2 c =
@@ -25,7 +25,7 @@ returns-2 c =
     let n = c .before .octet-at .result in
     let count = c .before .octet-at .ensures .0 in
     let room = c .before .before .if1 .left in
-    sym (ap behind (anchors-none s (a .p) room n count (c .if2 .taken)))
+    sym (ap after (anchors-none s (a .p) room n count (c .if2 .taken)))
 
 returns-3 : tie.Need-returns-3
 returns-3 c =

@@ -9,7 +9,7 @@ use Rattle.octets.specs.Octets.{octet}
 use Rattle.anchor.specs.Judge.{storable}
 use Rattle.store.specs.Image.{numberOk}
 use Rattle.store.proofs.Places.{anchor-short, anchor-cut, anchor-outside}
-use Rattle.image.specs.Check.{behind}
+use Rattle.image.specs.Check.{after}
 use Rattle.image.proofs.Checks.{anchor-number, anchor-info, anchor-stops}
 use Rattle.image.proofs.anchor_stop.Statement.{statement}
 use Rattle.image.proofs.anchor_stop.Tie as tie
@@ -18,13 +18,13 @@ returns : tie.Need-returns
 returns c =
     let a = c .before .before .args in
     let s = a .s .now in
-    sym (ap behind (anchor-short s (a .p) (omega arith)))
+    sym (ap after (anchor-short s (a .p) (omega arith)))
 
 returns-2 : tie.Need-returns-2
 returns-2 c =
     let a = c .before .before .before .args in
     let s = a .s .now in
-    sym (ap behind (anchor-short s (a .p) (omega arith)))
+    sym (ap after (anchor-short s (a .p) (omega arith)))
 
 returns-3 : tie.Need-returns-3
 returns-3 c =
@@ -32,7 +32,7 @@ returns-3 c =
     let s = a .s .now in
     let n = c .before .get-be .result in
     let size = c .before .get-be .ensures .0 in
-    sym (ap behind (anchor-outside s (a .p) n (omega arith) (sym size) (λ l m. omega arith)))
+    sym (ap after (anchor-outside s (a .p) n (omega arith) (sym size) (λ l m. omega arith)))
 
 returns-4 : tie.Need-returns-4
 returns-4 c =
@@ -40,7 +40,7 @@ returns-4 c =
     let s = a .s .now in
     let n = c .before .before .get-be .result in
     let size = c .before .before .get-be .ensures .0 in
-    sym (ap behind (anchor-outside s (a .p) n (omega arith) (sym size) (λ l m. omega arith)))
+    sym (ap after (anchor-outside s (a .p) n (omega arith) (sym size) (λ l m. omega arith)))
 
 returns-5 : tie.Need-returns-5
 returns-5 c =
@@ -48,7 +48,7 @@ returns-5 c =
     let s = a .s .now in
     let n = c .before .before .before .get-be .result in
     let size = c .before .before .before .get-be .ensures .0 in
-    sym (ap behind (anchor-cut s (a .p) n (omega arith) (sym size) (omega arith)))
+    sym (ap after (anchor-cut s (a .p) n (omega arith) (sym size) (omega arith)))
 
 returns-6 : tie.Need-returns-6
 returns-6 c =
@@ -58,7 +58,7 @@ returns-6 c =
     let size = c .before .before .before .before .before .before .before .get-be .ensures .0 in
     let num = ap (numberOk (octet s (a .p))) (sym (c .before .before .get-be2 .ensures .0)) ∙ sym (c .before .is-number .ensures)
     ∙ not-true _ (c .if6 .taken) in
-    sym (ap behind (anchor-number s (a .p) n (omega arith) size (omega arith) (omega arith) (omega arith) num))
+    sym (ap after (anchor-number s (a .p) n (omega arith) size (omega arith) (omega arith) (omega arith) num))
 
 returns-7 : tie.Need-returns-7
 returns-7 c =
@@ -70,7 +70,7 @@ returns-7 c =
     ∙ sym (c .before .before .before .before .is-number .ensures) ∙ not-false _ (c .before .before .before .if6 .left) in
     let z : n ≡ a .p + 11 + n - (a .p + 11) = omega arith in
     let info = ap (λ (k : ℕ). storable (take k (drop (a .p + 11) s))) z ∙ sym (c .before .is-storable .ensures) ∙ not-true _ (c .if7 .taken) in
-    sym (ap behind (anchor-info s (a .p) n (omega arith) size (omega arith) (omega arith) (omega arith) num info))
+    sym (ap after (anchor-info s (a .p) n (omega arith) size (omega arith) (omega arith) (omega arith) num info))
 
 returns-8 : tie.Need-returns-8
 returns-8 c =

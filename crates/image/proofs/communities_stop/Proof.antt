@@ -3,19 +3,16 @@ use borrow.Author.Needs.{needs}
 use mathlib.Core.Path.{_≡_, refl, sym, ap, _∙_}
 use lib.ListN.{drop}
 use Rattle.store.specs.Image.{readTimes, readCommunity}
-use Rattle.image.specs.Check.{behind, restAt}
+use Rattle.image.specs.Check.{after, restAt}
 use Rattle.image.proofs.Checks.{times-broken, times-turn, times-end}
 use Rattle.image.proofs.communities_stop.Statement.{statement}
 use Rattle.image.proofs.communities_stop.Tie as tie
 
 abbrev Inv-loop : tie.InvT-loop
-Inv-loop s p n q₀ left₀ q left = behind (readTimes left readCommunity (drop q s)) ≡ behind (readTimes n readCommunity (drop p s))
+Inv-loop s p n q₀ left₀ q left = after (readTimes left readCommunity (drop q s)) ≡ after (readTimes n readCommunity (drop p s))
 
 abbrev μ-loop : tie.MeasureT-loop
 μ-loop s p n q₀ left₀ q left = left
-
-loop-holds : tie.Need-loop-holds Inv-loop μ-loop
-loop-holds c = refl
 
 returns : tie.Need-returns Inv-loop μ-loop
 returns c =
@@ -46,7 +43,7 @@ communities-stop-spec =
     (tie.spec
     Inv-loop
     μ-loop
-    loop-holds
+    (λ c. refl)
     (λ c κs. search needs)
     (λ c. search needs)
     (λ c. search needs)

@@ -4,7 +4,7 @@ use mathlib.Core.Path.{sym, ap, _∙_}
 use lib.ListN.{drop}
 use borrow.Author.Tests.{not-true, not-false}
 use Rattle.der.specs.Contents.{oidOk}
-use Rattle.image.specs.Check.{behind, nameRead}
+use Rattle.image.specs.Check.{after, nameRead}
 use Rattle.image.proofs.Checks.{community-broken, community-no-oid, community-stops}
 use Rattle.image.proofs.community_stop.Statement.{statement}
 use Rattle.image.proofs.community_stop.Tie as tie
@@ -13,14 +13,14 @@ returns : tie.Need-returns
 returns c =
     let a = c .before .before .before .before .args in
     let s = a .s .now in
-    sym (ap behind (community-broken (drop (a .p) s) (sym (ap (nameRead s (a .p)) (c .enum-told .given .1)) ∙ c .before .before .name-stop .ensures)))
+    sym (ap after (community-broken (drop (a .p) s) (sym (ap (nameRead s (a .p)) (c .enum-told .given .1)) ∙ c .before .before .name-stop .ensures)))
 
 returns-2 : tie.Need-returns-2
 returns-2 c =
     let a = c .before .before .before .before .before .before .before .before .args in
     let s = a .s .now in
     let o = ap oidOk (sym (c .before .before .name-at .ensures)) ∙ sym (c .before .is-oid .ensures) ∙ not-true _ (c .if1 .taken) in
-    sym (ap behind (community-no-oid (drop (a .p) s) _ _ (sym (ap (nameRead s (a .p)) (c .before .before .before .before .e .given .1))
+    sym (ap after (community-no-oid (drop (a .p) s) _ _ (sym (ap (nameRead s (a .p)) (c .before .before .before .before .e .given .1))
     ∙ c .before .before .before .before .before .before .name-stop .ensures) o))
 
 returns-3 : tie.Need-returns-3

@@ -3,7 +3,7 @@ use borrow.Author.Needs.{needs}
 use mathlib.Core.Path.{sym, ap, _∙_}
 use borrow.Author.Tests.{not-true, not-false}
 use Rattle.der.specs.Contents.{oidOk}
-use Rattle.image.specs.Check.{behind, nameRead}
+use Rattle.image.specs.Check.{after, nameRead}
 use Rattle.image.proofs.Checks.{device-count, device-hwType, device-serial, device-oid, device-stops}
 use Rattle.image.proofs.device_section.Statement.{statement}
 use Rattle.image.proofs.device_section.Tie as tie
@@ -12,14 +12,14 @@ returns : tie.Need-returns
 returns c =
     let a = c .before .before .before .args in
     let s = a .image .now in
-    sym (ap behind (device-count s (λ e. c .if1 .taken (c .before .octet-at .ensures .0 ∙ e))))
+    sym (ap after (device-count s (λ e. c .if1 .taken (c .before .octet-at .ensures .0 ∙ e))))
 
 returns-2 : tie.Need-returns-2
 returns-2 c =
     let a = c .before .before .before .before .before .before .args in
     let s = a .image .now in
     let one = sym (c .before .before .before .before .octet-at .ensures .0) ∙ c .before .before .before .if1 .left in
-    sym (ap behind (device-hwType s one (sym (ap (nameRead s 1) (c .enum-told .given .1)) ∙ c .before .before .name-stop .ensures)))
+    sym (ap after (device-hwType s one (sym (ap (nameRead s 1) (c .enum-told .given .1)) ∙ c .before .before .name-stop .ensures)))
 
 returns-3 : tie.Need-returns-3
 returns-3 c =
@@ -29,7 +29,7 @@ returns-3 c =
     ∙ c .before .before .before .before .before .before .before .if1 .left in
     let p = c .before .before .before .before .p .given .0 .0 in
     sym
-    (ap behind
+    (ap after
     (device-serial s one _ _
     (sym (ap (nameRead s 1) (c .before .before .before .before .p .given .1)) ∙ c .before .before .before .before .before .before .name-stop .ensures)
     (sym (ap (nameRead s p) (c .enum-told2 .given .1)) ∙ c .before .before .name-stop2 .ensures)))
@@ -43,7 +43,7 @@ returns-4 c =
     let p = c .before .before .before .before .before .before .before .before .p .given .0 .0 in
     let o = ap oidOk (sym (c .before .before .name-at .ensures)) ∙ sym (c .before .is-oid .ensures) ∙ not-true _ (c .if2 .taken) in
     sym
-    (ap behind
+    (ap after
     (device-oid s one _ _
     (sym (ap (nameRead s 1) (c .before .before .before .before .before .before .before .before .p .given .1))
     ∙ c .before .before .before .before .before .before .before .before .before .before .name-stop .ensures) _ _

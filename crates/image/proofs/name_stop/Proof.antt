@@ -3,7 +3,7 @@ use borrow.Author.Needs.{needs}
 use native.Mathlib.Omega.{arith}
 use mathlib.Core.Path.{sym, _∙_}
 use lib.Dec.{lit<}
-use Rattle.octets.specs.Limits.{maxName}
+use Rattle.octets.specs.Limits.{maxNameOctets}
 use Rattle.store.proofs.Places.{number-one, sized-short, sized-cut, sized-outside}
 use Rattle.image.proofs.Checks.{name-stops}
 use Rattle.image.proofs.name_stop.Statement.{statement}
@@ -13,7 +13,7 @@ returns : tie.Need-returns
 returns c =
     let a = c .before .before .args in
     let s = a .s .now in
-    sym (sized-short s (a .p) 1 maxName (lit< tt) (omega arith))
+    sym (sized-short s (a .p) 1 maxNameOctets (lit< tt) (omega arith))
 
 returns-2 : tie.Need-returns-2
 returns-2 c =
@@ -22,7 +22,7 @@ returns-2 c =
     let n = c .before .octet-at .result in
     let room = c .before .before .if1 .left in
     let size = number-one s (a .p) room ∙ sym (c .before .octet-at .ensures .0) in
-    sym (sized-outside s (a .p) 1 maxName n (omega arith) size (λ l m. omega arith))
+    sym (sized-outside s (a .p) 1 maxNameOctets n (omega arith) size (λ l m. omega arith))
 
 returns-3 : tie.Need-returns-3
 returns-3 c =
@@ -31,7 +31,7 @@ returns-3 c =
     let n = c .before .before .octet-at .result in
     let room = c .before .before .before .if1 .left in
     let size = number-one s (a .p) room ∙ sym (c .before .before .octet-at .ensures .0) in
-    sym (sized-outside s (a .p) 1 maxName n (omega arith) size (λ l m. omega arith))
+    sym (sized-outside s (a .p) 1 maxNameOctets n (omega arith) size (λ l m. omega arith))
 
 returns-4 : tie.Need-returns-4
 returns-4 c =
@@ -40,7 +40,7 @@ returns-4 c =
     let n = c .before .before .before .octet-at .result in
     let room = c .before .before .before .before .if1 .left in
     let size = number-one s (a .p) room ∙ sym (c .before .before .before .octet-at .ensures .0) in
-    sym (sized-cut s (a .p) 1 maxName n (omega arith) size (omega arith))
+    sym (sized-cut s (a .p) 1 maxNameOctets n (omega arith) size (omega arith))
 
 returns-5 : tie.Need-returns-5
 returns-5 c =

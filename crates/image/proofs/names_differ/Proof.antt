@@ -14,9 +14,6 @@ Inv-loop s p n q₀ left₀ q left = distinct (namesFrom left (drop q s)) ≡ di
 abbrev μ-loop : tie.MeasureT-loop
 μ-loop s p n q₀ left₀ q left = left
 
-loop-holds : tie.Need-loop-holds Inv-loop μ-loop
-loop-holds c = refl
-
 returns : tie.Need-returns Inv-loop μ-loop
 returns c =
     let a = c .before .before .before .before .before .before .before .args in
@@ -46,7 +43,7 @@ names-differ-spec =
     (tie.spec
     Inv-loop
     μ-loop
-    loop-holds
+    (λ c. refl)
     (λ c κs. search needs)
     (λ c κs. search needs)
     (λ c. search needs)

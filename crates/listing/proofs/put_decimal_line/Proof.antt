@@ -10,9 +10,6 @@ use Rattle.octets.proofs.Turns.{left-start, left-step, last-step}
 use Rattle.listing.proofs.put_decimal_line.Statement.{statement}
 use Rattle.listing.proofs.put_decimal_line.Tie as tie
 
-put-decimal-requires : tie.Need-put-decimal-requires
-put-decimal-requires c κs = omega (arith, decimal-line-length (c .before .before .args .n))
-
 put-octet-requires : tie.Need-put-octet-requires
 put-octet-requires c κs = omega (arith, decimal-line-length (c .before .before .before .before .before .before .args .n))
 
@@ -29,4 +26,4 @@ returns c =
 
 pub put-decimal-line-spec : {M : Type 1} → statement M
 put-decimal-line-spec =
-    tie.close (tie.spec put-decimal-requires put-octet-requires (λ c. search needs) returns)
+    tie.close (tie.spec (λ c κs. omega (arith, decimal-line-length (c .before .before .args .n))) put-octet-requires (λ c. search needs) returns)

@@ -6,24 +6,15 @@ use mathlib.Core.Path.{refl}
 use lib.ListN.{length, drop}
 use Rattle.store.specs.Listing.{hex}
 use Rattle.listing.proofs.Texts.{hex-turn, hex-end}
-use Rattle.octets.proofs.Turns.{Left, left-start, left-fits, left-step, left-end}
+use Rattle.octets.proofs.Turns.{Unwritten, left-start, left-fits, left-step, left-end}
 use Rattle.listing.proofs.put_hex.Statement.{statement}
 use Rattle.listing.proofs.put_hex.Tie as tie
 
 abbrev Inv-loop : tie.InvT-loop
-Inv-loop buf₀ at s q₀ i₀ buf q i = Left buf₀ at (hex s) buf q (hex (drop i s))
+Inv-loop buf₀ at s q₀ i₀ buf q i = Unwritten buf₀ at (hex s) buf q (hex (drop i s))
 
 abbrev μ-loop : tie.MeasureT-loop
 μ-loop buf₀ at s q₀ i₀ buf q i = length s - i
-
-loop-holds : tie.Need-loop-holds Inv-loop μ-loop
-loop-holds c = left-start _ _ _
-
-shared-slice-read-hex-digit : tie.Need-shared-slice-read-hex-digit Inv-loop μ-loop
-shared-slice-read-hex-digit c = omega arith
-
-hex-digit-requires : tie.Need-hex-digit-requires Inv-loop μ-loop
-hex-digit-requires c κs = omega (arith, c .shared-slice-known2 .given (c .before .before .before .loop .i))
 
 put-octet-requires : tie.Need-put-octet-requires Inv-loop μ-loop
 put-octet-requires c κs =
@@ -34,9 +25,6 @@ put-octet-requires c κs =
     let l = k₂ .loop in
     let e = hex-turn (a .s .now) (l .i) (k₁ .loop-test .taken) (c .hex-digit .ensures) refl in
     left-fits (a .buf .now) (a .at) _ (k₃ .pre) (l .inv) (c .hex-digit .result ∷ []) _ e
-
-shared-slice-read-hex-digit-2 : tie.Need-shared-slice-read-hex-digit-2 Inv-loop μ-loop
-shared-slice-read-hex-digit-2 c = omega arith
 
 hex-digit-requires-2 : tie.Need-hex-digit-requires-2 Inv-loop μ-loop
 hex-digit-requires-2 c κs = omega (arith, c .shared-slice-known3 .given (c .before .before .before .before .before .before .before .before .before .loop .i))
@@ -54,12 +42,6 @@ put-octet-requires-2 c κs =
     let m = left-step (a .buf .now) (a .at) _ (k₅ .pre) (l .inv) (k₂ .hex-digit .result ∷ []) _ e (k₁ .put-octet .ensures) in
     left-fits (a .buf .now) (a .at) _ (k₅ .pre) m (c .hex-digit2 .result ∷ []) _ refl
 
-add-i : tie.Need-add-i Inv-loop μ-loop
-add-i c = omega arith
-
-loop-less : tie.Need-loop-less Inv-loop μ-loop
-loop-less c = omega arith
-
 loop-again : tie.Need-loop-again Inv-loop μ-loop
 loop-again c =
     let k₁ = c .before .before .before in
@@ -74,9 +56,6 @@ loop-again c =
     let m = left-step (a .buf .now) (a .at) _ (k₆ .pre) (l .inv) (k₃ .hex-digit .result ∷ []) _ e (k₂ .put-octet .ensures) in
     left-step (a .buf .now) (a .at) _ (k₆ .pre) m (k₁ .hex-digit2 .result ∷ []) _ refl (c .before .before .put-octet2 .ensures)
 
-same-length : tie.Need-same-length Inv-loop μ-loop
-same-length c = c .before .loop .inv .size
-
 returns : tie.Need-returns Inv-loop μ-loop
 returns c =
     let a = c .before .before .before .before .args in
@@ -89,15 +68,15 @@ put-hex-spec =
     (tie.spec
     Inv-loop
     μ-loop
-    loop-holds
-    shared-slice-read-hex-digit
-    hex-digit-requires
+    (λ c. left-start _ _ _)
+    (λ c. omega arith)
+    (λ c κs. omega (arith, c .shared-slice-known2 .given (c .before .before .before .loop .i)))
     put-octet-requires
-    shared-slice-read-hex-digit-2
+    (λ c. omega arith)
     hex-digit-requires-2
     put-octet-requires-2
-    add-i
-    loop-less
+    (λ c. omega arith)
+    (λ c. omega arith)
     loop-again
-    same-length
+    (λ c. c .before .loop .inv .size)
     returns)

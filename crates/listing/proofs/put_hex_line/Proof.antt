@@ -10,9 +10,6 @@ use Rattle.octets.proofs.Turns.{left-start, left-step, last-step}
 use Rattle.listing.proofs.put_hex_line.Statement.{statement}
 use Rattle.listing.proofs.put_hex_line.Tie as tie
 
-put-hex-requires : tie.Need-put-hex-requires
-put-hex-requires c κs = omega (arith, hex-line-length (c .before .before .before .args .s .now))
-
 put-octet-requires : tie.Need-put-octet-requires
 put-octet-requires c κs = omega (arith, hex-line-length (c .before .before .before .before .before .before .before .args .s .now))
 
@@ -28,4 +25,4 @@ returns c =
     last-step (a .buf .now) (a .at) all h l (c .before .before .put-octet .ensures)
 
 pub put-hex-line-spec : {M : Type 1} → statement M
-put-hex-line-spec = tie.close (tie.spec put-hex-requires put-octet-requires (λ c. search needs) returns)
+put-hex-line-spec = tie.close (tie.spec (λ c κs. omega (arith, hex-line-length (c .before .before .before .args .s .now))) put-octet-requires (λ c. search needs) returns)

@@ -8,9 +8,6 @@ use Rattle.octets.proofs.Turns.{left-start, left-step, last-step}
 use Rattle.listing.proofs.put_image.Statement.{statement}
 use Rattle.listing.proofs.put_image.Tie as tie
 
-put-device-requires : tie.Need-put-device-requires
-put-device-requires c κs = omega (arith, image-length (c .before .before .before .args .image .now))
-
 put-anchors-requires : tie.Need-put-anchors-requires
 put-anchors-requires c κs = omega (arith, image-length (c .before .before .before .before .before .before .before .args .image .now))
 
@@ -37,7 +34,7 @@ pub put-image-spec : {M : Type 1} → statement M
 put-image-spec =
     tie.close
     (tie.spec
-    put-device-requires
+    (λ c κs. omega (arith, image-length (c .before .before .before .args .image .now)))
     put-anchors-requires
     put-communities-requires
     (λ c. search needs)

@@ -4,18 +4,15 @@ use mathlib.Core.Path.{refl}
 use lib.ListN.{drop}
 use Rattle.listing.specs.Texts.{hexLine, nameLines}
 use Rattle.listing.proofs.Texts.{names-line, names-end}
-use Rattle.octets.proofs.Turns.{Left, left-start, left-fits, left-step, left-end}
+use Rattle.octets.proofs.Turns.{Unwritten, left-start, left-fits, left-step, left-end}
 use Rattle.listing.proofs.put_names.Statement.{statement}
 use Rattle.listing.proofs.put_names.Tie as tie
 
 abbrev Inv-loop : tie.InvT-loop
-Inv-loop buf₀ at names n q₀ e₀ more₀ buf q e more = Left buf₀ at (nameLines n names) buf q (nameLines more (drop e names))
+Inv-loop buf₀ at names n q₀ e₀ more₀ buf q e more = Unwritten buf₀ at (nameLines n names) buf q (nameLines more (drop e names))
 
 abbrev μ-loop : tie.MeasureT-loop
 μ-loop buf₀ at names n q₀ e₀ more₀ buf q e more = more
-
-loop-holds : tie.Need-loop-holds Inv-loop μ-loop
-loop-holds c = left-start _ _ _
 
 put-hex-line-requires : tie.Need-put-hex-line-requires Inv-loop μ-loop
 put-hex-line-requires c κs =
@@ -38,9 +35,6 @@ loop-again c =
     let e = names-line (a .names .now) (l .e) (l .more) (k₃ .loop-test .taken) (k₂ .name-at .ensures) (c .name-end .ensures) in
     left-step (a .buf .now) (a .at) _ (k₅ .pre) (l .inv) (hexLine (k₂ .name-at .result .now)) _ e (k₁ .put-hex-line .ensures)
 
-same-length : tie.Need-same-length Inv-loop μ-loop
-same-length c = c .before .loop .inv .size
-
 returns : tie.Need-returns Inv-loop μ-loop
 returns c =
     let a = c .before .before .before .before .args in
@@ -53,12 +47,12 @@ put-names-spec =
     (tie.spec
     Inv-loop
     μ-loop
-    loop-holds
+    (λ c. left-start _ _ _)
     (λ c κs. search needs)
     put-hex-line-requires
     (λ c κs. search needs)
     (λ c. search needs)
     (λ c. search needs)
     loop-again
-    same-length
+    (λ c. c .before .loop .inv .size)
     returns)

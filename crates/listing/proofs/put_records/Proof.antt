@@ -7,18 +7,15 @@ use mathlib.Core.Path.{refl}
 use lib.ListN.{drop}
 use Rattle.listing.specs.Texts.{recordLine, recordLines}
 use Rattle.listing.proofs.Texts.{lines-turn, lines-end}
-use Rattle.octets.proofs.Turns.{Left, left-start, left-fits, left-step, left-end}
+use Rattle.octets.proofs.Turns.{Unwritten, left-start, left-fits, left-step, left-end}
 use Rattle.listing.proofs.put_records.Statement.{statement}
 use Rattle.listing.proofs.put_records.Tie as tie
 
 abbrev Inv-loop : tie.InvT-loop
-Inv-loop buf₀ at image p n q₀ e₀ i₀ buf q e i = Left buf₀ at (recordLines 0 n (drop p image)) buf q (recordLines i (n - i) (drop e image))
+Inv-loop buf₀ at image p n q₀ e₀ i₀ buf q e i = Unwritten buf₀ at (recordLines 0 n (drop p image)) buf q (recordLines i (n - i) (drop e image))
 
 abbrev μ-loop : tie.MeasureT-loop
 μ-loop buf₀ at image p n q₀ e₀ i₀ buf q e i = n - i
-
-loop-holds : tie.Need-loop-holds Inv-loop μ-loop
-loop-holds c = rw (sub-zero (c .before .before .args .n)) (left-start _ _ _)
 
 put-record-requires : tie.Need-put-record-requires Inv-loop μ-loop
 put-record-requires c κs =
@@ -28,12 +25,6 @@ put-record-requires c κs =
     let l = k₁ .loop in
     let e = lines-turn (a .image .now) (l .e) (l .i) (a .n) (c .before .before .loop-test .taken) (c .record-at .ensures) refl in
     left-fits (a .buf .now) (a .at) _ (k₂ .pre) (l .inv) (recordLine (l .i) (c .record-at .result .now)) _ e
-
-add-i : tie.Need-add-i Inv-loop μ-loop
-add-i c = omega arith
-
-loop-less : tie.Need-loop-less Inv-loop μ-loop
-loop-less c = omega arith
 
 loop-again : tie.Need-loop-again Inv-loop μ-loop
 loop-again c =
@@ -47,9 +38,6 @@ loop-again c =
     let e = lines-turn (a .image .now) (l .e) (l .i) (a .n) (k₃ .loop-test .taken) (k₂ .record-at .ensures) (c .record-end .ensures) in
     left-step (a .buf .now) (a .at) _ (k₅ .pre) (l .inv) (recordLine (l .i) (k₂ .record-at .result .now)) _ e (k₁ .put-record .ensures)
 
-same-length : tie.Need-same-length Inv-loop μ-loop
-same-length c = c .before .loop .inv .size
-
 returns : tie.Need-returns Inv-loop μ-loop
 returns c =
     let a = c .before .before .before .before .args in
@@ -62,12 +50,12 @@ put-records-spec =
     (tie.spec
     Inv-loop
     μ-loop
-    loop-holds
+    (λ c. rw (sub-zero (c .before .before .args .n)) (left-start _ _ _))
     (λ c κs. search needs)
     put-record-requires
     (λ c κs. search needs)
-    add-i
-    loop-less
+    (λ c. omega arith)
+    (λ c. omega arith)
     loop-again
-    same-length
+    (λ c. c .before .loop .inv .size)
     returns)

@@ -10,7 +10,7 @@ use mathlib.Core.List.{List}
 use Rattle.octets.specs.Octets.{member}
 use Rattle.der.specs.Element.{contents}
 use Rattle.message.specs.Names.{namesIn}
-use Rattle.message.proofs.Loops.{any-none, any-here, any-later}
+use Rattle.der.proofs.Loops.{any-none, any-here, any-later}
 use borrow.Author.Needs.{needs}
 use Rattle.message.proofs.any_community.Statement.{statement}
 use Rattle.message.proofs.any_community.Tie as tie
@@ -32,9 +32,6 @@ loop-again : tie.Need-loop-again Inv-loop μ-loop
 loop-again c =
     any-later _ _ _ _ (c .before .before .before .before .before .before .loop .inv) (c .before .before .before .before .before .loop-test .taken) (c .before .before .before .before .element-at .ensures) (c .before .before .is-among .ensures ∙ ap (λ (o : List ℕ). member o (namesIn (c .before .before .before .before .before .before .before .before .before .args .communities .now))) (c .before .before .before .contents .ensures)) (c .before .if1 .left) (c .next .ensures)
 
-returns-2 : tie.Need-returns-2 Inv-loop μ-loop
-returns-2 c = any-none _ _ _ _ (c .before .loop .inv) (c .loop-test .left)
-
 pub any-community-spec : {M : Type 1} → statement M
 any-community-spec =
     tie.close
@@ -49,4 +46,4 @@ any-community-spec =
     (λ c κs. search needs)
     loop-less
     loop-again
-    returns-2)
+    (λ c. any-none _ _ _ _ (c .before .loop .inv) (c .loop-test .left)))

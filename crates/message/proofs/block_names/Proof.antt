@@ -8,12 +8,6 @@ use Rattle.message.proofs.Blocks.{block-low, block-high, block-below, b
 use Rattle.message.proofs.block_names.Statement.{statement}
 use Rattle.message.proofs.block_names.Tie as tie
 
-returns : tie.Need-returns
-returns c = sym (block-low _ _ _ (c .if1 .taken))
-
-returns-2 : tie.Need-returns-2
-returns-2 c = sym (block-high _ _ _ (c .if2 .taken))
-
 returns-3 : tie.Need-returns-3
 returns-3 c =
     let c3 = c .before .before .before in
@@ -39,4 +33,4 @@ returns-4 c =
 pub block-names-spec : {M : Type 1} → statement M
 block-names-spec =
     tie.close
-    (tie.spec returns returns-2 (λ c κs. search needs) returns-3 (λ c κs. search needs) returns-4)
+    (tie.spec (λ c. sym (block-low _ _ _ (c .if1 .taken))) (λ c. sym (block-high _ _ _ (c .if2 .taken))) (λ c κs. search needs) returns-3 (λ c κs. search needs) returns-4)

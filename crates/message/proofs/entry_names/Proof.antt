@@ -8,9 +8,6 @@ use Rattle.message.proofs.Aims.{entry-all, entry-single, entry-block}
 use Rattle.message.proofs.entry_names.Statement.{statement}
 use Rattle.message.proofs.entry_names.Tie as tie
 
-returns : tie.Need-returns
-returns c = sym (entry-all _ _ _ (c .if1 .taken))
-
 returns-2 : tie.Need-returns-2
 returns-2 c =
     let c4 = c .before .before .before .before in
@@ -25,13 +22,13 @@ returns-3 c =
     let c7 = c3 .before .before .before .before in
     c .block-names .ensures
     ∙ sym
-    (entry-block _ _ _ (c7 .if1 .left) (c3 .before .before .if2 .left) (c3 .before .field .ensures) (c3 .field-behind .ensures) (c .before .before .contents2 .ensures) (c .before .contents3 .ensures))
+    (entry-block _ _ _ (c7 .if1 .left) (c3 .before .before .if2 .left) (c3 .before .field .ensures) (c3 .field-after .ensures) (c .before .before .contents2 .ensures) (c .before .contents3 .ensures))
 
 pub entry-names-spec : {M : Type 1} → statement M
 entry-names-spec =
     tie.close
     (tie.spec
-    returns
+    (λ c. sym (entry-all _ _ _ (c .if1 .taken)))
     (λ c κs. search needs)
     (λ c κs. search needs)
     returns-2

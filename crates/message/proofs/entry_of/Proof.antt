@@ -12,12 +12,6 @@ returns c =
 returns-2 : tie.Need-returns-2
 returns-2 c = entry-certificate _ _ (c .before .before .before .if1 .taken) (c .before .before .element-at .ensures) (c .if2 .left)
 
-returns-3 : tie.Need-returns-3
-returns-3 c = entry-remove _ _ (c .before .before .if1 .left) (c .if3 .taken)
-
-returns-4 : tie.Need-returns-4
-returns-4 c = entry-change _ _ (c .before .before .if1 .left) (c .if3 .left)
-
 pub entry-of-spec : {M : Type 1} → statement M
 entry-of-spec =
-    tie.close (tie.spec (λ c κs. search needs) (λ c κs. search needs) returns returns-2 returns-3 returns-4)
+    tie.close (tie.spec (λ c κs. search needs) (λ c κs. search needs) returns returns-2 (λ c. entry-remove _ _ (c .before .before .if1 .left) (c .if3 .taken)) (λ c. entry-change _ _ (c .before .before .if1 .left) (c .if3 .left)))

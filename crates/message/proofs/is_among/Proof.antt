@@ -16,9 +16,6 @@ Inv-loop o names i₀ i = (member o (namesIn (drop i names)) ≡ member o (names
 abbrev μ-loop : tie.MeasureT-loop
 μ-loop o names i₀ i = length names - i
 
-loop-holds : tie.Need-loop-holds Inv-loop μ-loop
-loop-holds c = (refl, omega arith)
-
 returns : tie.Need-returns Inv-loop μ-loop
 returns c =
     let c3 = c .before .before .before in
@@ -26,11 +23,8 @@ returns c =
     let c10 = c6 .before .before .before .before in
     let a = c10 .args in
     sym (among-found (a .o .now) (a .names .now) (c6 .before .loop .i) (c6 .loop-test .taken) (c3 .before .wide .ensures) (c3 .end-of .ensures)
-    (ap (same (a .o .now)) (sym (c .before .before .part .ensures)) ∙ sym (c .before .equal .ensures) ∙ c .if1 .taken))
+    (ap (same (a .o .now)) (sym (c .before .before .slice .ensures)) ∙ sym (c .before .equal .ensures) ∙ c .if1 .taken))
     ∙ c6 .before .loop .inv .0
-
-loop-less : tie.Need-loop-less Inv-loop μ-loop
-loop-less c = omega (arith, c .before .before .before .end-of .ensures)
 
 loop-again : tie.Need-loop-again Inv-loop μ-loop
 loop-again c =
@@ -39,13 +33,10 @@ loop-again c =
     let c10 = c6 .before .before .before .before in
     let a = c10 .args in (
       sym (among-turn (a .o .now) (a .names .now) (c6 .before .loop .i) (c6 .loop-test .taken) (c3 .before .wide .ensures) (c3 .end-of .ensures)
-          (ap (same (a .o .now)) (sym (c .before .before .part .ensures)) ∙ sym (c .before .equal .ensures) ∙ c .if1 .left))
+          (ap (same (a .o .now)) (sym (c .before .before .slice .ensures)) ∙ sym (c .before .equal .ensures) ∙ c .if1 .left))
           ∙ c6 .before .loop .inv .0,
       omega (arith, c3 .end-of .ensures),
     )
-
-returns-2 : tie.Need-returns-2 Inv-loop μ-loop
-returns-2 c = sym (among-end _ _ _ (c .loop-test .left)) ∙ c .before .loop .inv .0
 
 pub is-among-spec : {M : Type 1} → statement M
 is-among-spec =
@@ -53,7 +44,7 @@ is-among-spec =
     (tie.spec
     Inv-loop
     μ-loop
-    loop-holds
+    (λ c. (refl, omega arith))
     (λ c. search needs)
     (λ c. search needs)
     (λ c κs. search needs)
@@ -61,6 +52,6 @@ is-among-spec =
     (λ c κs. search needs)
     (λ c κs. search needs)
     returns
-    loop-less
+    (λ c. omega (arith, c .before .before .before .end-of .ensures))
     loop-again
-    returns-2)
+    (λ c. sym (among-end _ _ _ (c .loop-test .left)) ∙ c .before .loop .inv .0))

@@ -5,12 +5,6 @@ use Rattle.message.proofs.Aims.{target-uri, target-other, target-named,
 use Rattle.message.proofs.judge_target.Statement.{statement}
 use Rattle.message.proofs.judge_target.Tie as tie
 
-returns : tie.Need-returns
-returns c = sym (target-uri _ _ _ _ _ (c .if1 .taken))
-
-returns-2 : tie.Need-returns-2
-returns-2 c = sym (target-other _ _ _ _ _ (c .before .before .if1 .left) (c .if2 .taken))
-
 returns-3 : tie.Need-returns-3
 returns-3 c =
     let c4 = c .before .before .before .before in
@@ -23,4 +17,4 @@ returns-4 c =
 
 pub judge-target-spec : {M : Type 1} → statement M
 judge-target-spec =
-    tie.close (tie.spec returns returns-2 (λ c κs. search needs) returns-3 returns-4)
+    tie.close (tie.spec (λ c. sym (target-uri _ _ _ _ _ (c .if1 .taken))) (λ c. sym (target-other _ _ _ _ _ (c .before .before .if1 .left) (c .if2 .taken))) (λ c κs. search needs) returns-3 returns-4)

@@ -5,9 +5,6 @@ use Rattle.message.proofs.Aims.{names-all, names-community, names-modul
 use Rattle.message.proofs.names_device.Statement.{statement}
 use Rattle.message.proofs.names_device.Tie as tie
 
-returns : tie.Need-returns
-returns c = sym (names-all _ _ _ _ _ (c .if1 .taken))
-
 returns-2 : tie.Need-returns-2
 returns-2 c =
     let c3 = c .before .before .before in
@@ -18,4 +15,4 @@ returns-3 c = c .any-module .ensures ∙ sym (names-module _ _ _ _ _ (c .before 
 
 pub names-device-spec : {M : Type 1} → statement M
 names-device-spec =
-    tie.close (tie.spec returns (λ c κs. search needs) returns-2 (λ c κs. search needs) returns-3)
+    tie.close (tie.spec (λ c. sym (names-all _ _ _ _ _ (c .if1 .taken))) (λ c κs. search needs) returns-2 (λ c κs. search needs) returns-3)

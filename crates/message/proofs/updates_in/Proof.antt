@@ -6,7 +6,7 @@ use Rattle.message.proofs.updates_in.Tie as tie
 
 returns : tie.Need-returns
 unfolding updatesIn
-returns c = c .field-behind .ensures
+returns c = c .field-after .ensures
 
 pub updates-in-spec : {M : Type 1} → statement M
 updates-in-spec = tie.close (tie.spec (λ c κs. search needs) returns)

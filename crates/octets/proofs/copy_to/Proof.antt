@@ -16,9 +16,6 @@ Inv-loop dst₀ at src i₀ dst i = (i ≤ length src) × (length dst ≡ length
 abbrev μ-loop : tie.MeasureT-loop
 μ-loop dst₀ at src i₀ dst i = length src - i
 
-loop-holds : tie.Need-loop-holds Inv-loop μ-loop
-loop-holds c = (omega arith, refl, sym (placed-nil _ _))
-
 loop-again : tie.Need-loop-again Inv-loop μ-loop
 loop-again c =
     let a = c .before .before .before .args in
@@ -34,7 +31,7 @@ copy-to-spec =
     (tie.spec
     Inv-loop
     μ-loop
-    loop-holds
+    (λ c. (omega arith, refl, sym (placed-nil _ _)))
     (λ c. search needs)
     (λ c. search needs)
     (λ c. search needs)

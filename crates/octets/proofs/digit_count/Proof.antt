@@ -16,15 +16,6 @@ Inv-loop n rest₀ k₀ rest k = (k ≤ 8) × (rest < 256 ^ (8 - k)) × (k + len
 abbrev μ-loop : tie.MeasureT-loop
 μ-loop n rest₀ k₀ rest k = 8 - k
 
-loop-holds : tie.Need-loop-holds Inv-loop μ-loop
-loop-holds c = (omega arith, c .fits .n .fits, omega arith)
-
-add-k : tie.Need-add-k Inv-loop μ-loop
-add-k c = omega (arith, fewer _ _ (c .loop-test .taken) (c .before .loop .inv .1))
-
-loop-less : tie.Need-loop-less Inv-loop μ-loop
-loop-less c = omega (arith, fewer _ _ (c .loop-test .taken) (c .before .loop .inv .1))
-
 loop-again : tie.Need-loop-again Inv-loop μ-loop
 loop-again c =
     let l = c .before .loop in
@@ -41,4 +32,4 @@ returns c =
 
 pub digit-count-spec : {M : Type 1} → statement M
 digit-count-spec =
-    tie.close (tie.spec Inv-loop μ-loop loop-holds add-k loop-less loop-again returns)
+    tie.close (tie.spec Inv-loop μ-loop (λ c. (omega arith, c .fits .n .fits, omega arith)) (λ c. omega (arith, fewer _ _ (c .loop-test .taken) (c .before .loop .inv .1))) (λ c. omega (arith, fewer _ _ (c .loop-test .taken) (c .before .loop .inv .1))) loop-again returns)

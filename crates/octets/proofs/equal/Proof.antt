@@ -14,14 +14,8 @@ Inv-loop a b i₀ i = (i ≤ length a) × (drop i a ≡ drop i b)
 abbrev μ-loop : tie.MeasureT-loop
 μ-loop a b i₀ i = i
 
-returns : tie.Need-returns Inv-loop μ-loop
-returns c = sym (same-lengths _ _ (c .if1 .taken))
-
 loop-holds : tie.Need-loop-holds Inv-loop μ-loop
 loop-holds c = (omega arith, rest-none (c .before .args .a .now) (c .before .args .b .now) (c .if1 .left))
-
-returns-2 : tie.Need-returns-2 Inv-loop μ-loop
-returns-2 c = sym (same-differ _ _ _ (c .if2 .taken))
 
 loop-again : tie.Need-loop-again Inv-loop μ-loop
 loop-again c =
@@ -42,12 +36,12 @@ equal-spec =
     (tie.spec
     Inv-loop
     μ-loop
-    returns
+    (λ c. sym (same-lengths _ _ (c .if1 .taken)))
     loop-holds
     (λ c. search needs)
     (λ c. search needs)
     (λ c. search needs)
-    returns-2
+    (λ c. sym (same-differ _ _ _ (c .if2 .taken)))
     (λ c. search needs)
     loop-again
     returns-3)

@@ -15,9 +15,6 @@ Inv-loop a b i₀ i = (i ≤ length a) × (ordered (drop i a) (drop i b) ≡ ord
 abbrev μ-loop : tie.MeasureT-loop
 μ-loop a b i₀ i = length a - i
 
-loop-holds : tie.Need-loop-holds Inv-loop μ-loop
-loop-holds c = (omega arith, refl)
-
 returns : tie.Need-returns Inv-loop μ-loop
 returns c =
     let a = c .before .before .before .args in
@@ -52,7 +49,7 @@ in-order-spec =
     (tie.spec
     Inv-loop
     μ-loop
-    loop-holds
+    (λ c. (omega arith, refl))
     returns
     (λ c. search needs)
     (λ c. search needs)

@@ -6,7 +6,7 @@ use mathlib.Core.Path.{_≡_, refl, sym, ap, _∙_}
 use lib.ListN.{length, take, drop, length-set}
 use lib.Seq.{take-all}
 use Rattle.octets.specs.Octets.{placed}
-use Rattle.octets.proofs.Parts.{length-part, octet-part}
+use Rattle.octets.proofs.Parts.{length-slice, octet-slice}
 use Rattle.octets.proofs.Placed.{placed-nil, up-turn, up-rest}
 use Rattle.octets.proofs.move_down.Statement.{statement}
 use Rattle.octets.proofs.move_down.Tie as tie
@@ -17,19 +17,16 @@ Inv-loop d₀ from to n i₀ d i = (i ≤ n) × (length d ≡ length d₀) × (d
 abbrev μ-loop : tie.MeasureT-loop
 μ-loop d₀ from to n i₀ d i = n - i
 
-loop-holds : tie.Need-loop-holds Inv-loop μ-loop
-loop-holds c = (omega arith, refl, sym (placed-nil _ _))
-
 loop-again : tie.Need-loop-again Inv-loop μ-loop
 loop-again c =
     let a = c .before .before .before .args in
     let l = c .before .before .loop in
     let o = a .d .now in
     let t = take (a .n) (drop (a .from) o) in
-    let m = length-part o (a .from) (a .n) (omega arith) in
+    let m = length-slice o (a .from) (a .n) (omega arith) in
     let x =
     up-rest o (a .to) t (l .i) (a .from + l .i) (omega arith) (omega arith) (omega arith)
-    ∙ sym (octet-part o (a .from) (a .n) (l .i) (omega arith))
+    ∙ sym (octet-slice o (a .from) (a .n) (l .i) (omega arith))
     in
     (omega arith, simp length-set (l .inv .1), rw (l .inv .2, x) (up-turn o (a .to) t (l .i) (omega arith) (omega arith)))
 
@@ -37,7 +34,7 @@ returns : tie.Need-returns Inv-loop μ-loop
 returns c =
     let a = c .before .before .args in
     let l = c .before .loop in
-    let m = length-part (a .d .now) (a .from) (a .n) (omega arith) in
+    let m = length-slice (a .d .now) (a .from) (a .n) (omega arith) in
     l .inv .2 ∙ ap (placed _ _) (take-all (l .i) _ (omega arith))
 
 pub move-down-spec : {M : Type 1} → statement M
@@ -46,7 +43,7 @@ move-down-spec =
     (tie.spec
     Inv-loop
     μ-loop
-    loop-holds
+    (λ c. (omega arith, refl, sym (placed-nil _ _)))
     (λ c. search needs)
     (λ c. search needs)
     (λ c. search needs)

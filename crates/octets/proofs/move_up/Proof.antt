@@ -4,7 +4,7 @@ use native.Mathlib.Omega.{arith}
 use borrow.Author.Needs.{needs}
 use mathlib.Core.Path.{_≡_, sym, _∙_}
 use lib.ListN.{take, drop}
-use Rattle.octets.proofs.Parts.{length-part, octet-part}
+use Rattle.octets.proofs.Parts.{length-slice, octet-slice}
 use Rattle.octets.proofs.Placed.{Down, down-start, down-rest, down-turn, down-end}
 use Rattle.octets.proofs.move_up.Statement.{statement}
 use Rattle.octets.proofs.move_up.Tie as tie
@@ -18,17 +18,17 @@ abbrev μ-loop : tie.MeasureT-loop
 loop-holds : tie.Need-loop-holds Inv-loop μ-loop
 loop-holds c =
     let a = c .args in
-    let m = length-part (a .d .now) (a .from) (a .n) (omega arith) in
+    let m = length-slice (a .d .now) (a .from) (a .n) (omega arith) in
     (omega arith, down-start (a .d .now) (a .to) _ (omega arith) (a .n) m)
 
 loop-again : tie.Need-loop-again Inv-loop μ-loop
 loop-again c =
     let a = c .before .before .before .args in
     let l = c .before .before .loop in
-    let m = length-part (a .d .now) (a .from) (a .n) (omega arith) in
+    let m = length-slice (a .d .now) (a .from) (a .n) (omega arith) in
     let x =
     down-rest (a .d .now) (a .to) _ (omega arith) (l .d) (l .j) (a .from + (l .j - 1)) (l .inv .1) (omega arith)
-    ∙ sym (octet-part (a .d .now) (a .from) (a .n) (l .j - 1) (omega arith))
+    ∙ sym (octet-slice (a .d .now) (a .from) (a .n) (l .j - 1) (omega arith))
     in
     (omega arith, down-turn (a .d .now) (a .to) _ (omega arith) (l .d) (l .j) (l .j - 1) _ (omega arith) (omega arith) x (l .inv .1))
 
@@ -36,7 +36,7 @@ returns : tie.Need-returns Inv-loop μ-loop
 returns c =
     let a = c .before .before .args in
     let l = c .before .loop in
-    let m = length-part (a .d .now) (a .from) (a .n) (omega arith) in
+    let m = length-slice (a .d .now) (a .from) (a .n) (omega arith) in
     let z : l .j ≡ 0 = omega arith in
     down-end (a .d .now) (a .to) _ (omega arith) (l .d) (rw z at (l .inv .1))
 

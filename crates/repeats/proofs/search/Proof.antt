@@ -7,7 +7,7 @@ use mathlib.Core.Path.{_≡_, sym, ap, _∙_, subst}
 use borrow.Author.Needs.{needs}
 use borrow.Author.Tests.{eqb-true, not-true, not-false}
 use Rattle.der.specs.Element.{elements, inside}
-use Rattle.der.proofs.Elements.{good-within}
+use Rattle.der.proofs.Elements.{valid-within}
 use Rattle.der.proofs.Runs.{Reached, reached-none, reached-on}
 use Rattle.der.specs.Keys.{keysFrom, keysIn}
 use Rattle.repeats.specs.Keys.{firstRepeat}
@@ -67,7 +67,7 @@ loop-less c =
     let e = c .before .before .before .before .before .before in
     let l = e .before .before .before in
     let a = l .before .before .before .args in
-    omega (arith, good-within (a .s .now) (l .loop .i) (a .list .stop) (e .element-at .ensures) (not-false _ (c .if3 .left)))
+    omega (arith, valid-within (a .s .now) (l .loop .i) (a .list .stop) (e .element-at .ensures) (not-false _ (c .if3 .left)))
 
 loop-again : tie.Need-loop-again Inv-loop μ-loop
 loop-again c =
@@ -80,7 +80,7 @@ loop-again c =
     let g = not-false _ (c .if3 .left) in
     let h = keysIn (a .by) (a .s .now) (a .head) in
     let f = ledTo (a .by) (a .s .now) (a .order .now) in
-    let w = good-within (a .s .now) (l .loop .i) (a .list .stop) q g in (
+    let w = valid-within (a .s .now) (l .loop .i) (a .list .stop) q g in (
       reached-on (l .loop .inv .0) (a .list .stop) q g,
       sym (run-on (a .by) (a .s .now) (l .loop .i) (a .list .stop) q k h (l .loop .inv .0) g (sym (d .is-seen .ensures) ∙ c .before .before .if2 .left)) ∙ l .loop .inv .1,
       λ t.

@@ -1,6 +1,6 @@
 -- `reply::put_parts` meets its contract: a walk of its MIR. A writer is made of the buffer, one call stands after the other (proofs/Chain), and it is taken apart.
--- With 25 locals, local i stands at 2 · (24 − i) of the context, behind what is before the locals. Assumes nothing.
-use mathlib.Core.Path.{refl, ap}
+-- With 25 locals, local i stands at 2 · (24 − i) of the context, after what is before the locals. Assumes nothing.
+use mathlib.Core.Path.{refl}
 use Prim.Native.Nat.{ℕ, _<_, _≤_, _^_}
 use mathlib.Core.List.{[], _∷_, List}
 use lib.Dec.{lit<}
@@ -17,7 +17,8 @@ use ghost.Atoms.{Atoms}
 use contract.Monad.{Fun}
 use contract.Running.{givenOf, tables, tablesOf}
 use types.Kit.{Given, Item, ‵, ⋆, _$_, _∵_, !, qed, by, move, drop, rewrite, fsplit, fjoin, suffices, frame, done}
-use types.Run.{look, init, stop, hop, fld, from, load, of-opd, lit, addr, and-then, no-more, assigns, land, returns, enter, alloc1, alloc0, params1, pass1, pass0}
+use types.Run.{look, init, stop, hop, fld, from, load, of-opd, lit, addr, and-then, no-more, assigns, land, returns, enter, alloc1, alloc0, params1, pass1}
+use types.Run.{pass0}
 use types.Run.{free0}
 use types.Part.{agg, whole, sub, look-in}
 use sound.WpLaws.{FmC, fmOf, WpFn-mono}
@@ -33,7 +34,8 @@ use denote.Triple.Entry.{onEntry}
 use denote.Triple.Spec.{tripleOf}
 use denote.Triple.Statement.{Triple}
 use denote.Triple.Table.{entered, cited}
-use denote.Triple.Walked.{needs, says, Stays, stay-none, stay-none-slice, stay-slice, walkOf, goes-none, goes-none-slice, goes-slice, Walks, ends-at, walked, walk-meets}
+use denote.Triple.Walked.{needs, says, Stays, stay-none, stay-none-slice, stay-slice, walkOf, goes-none, goes-none-slice, goes-slice, Walks, ends-at, walked}
+use denote.Triple.Walked.{walk-meets}
 use denote.Exit.{yes}
 use denote.Signature.{plain}
 use Rattle.reply.specs.declared.Writer.{Writer}

@@ -5,14 +5,14 @@ use mathlib.Core.Path.{ap}
 use lib.ListN.{length}
 use mathlib.Core.List.{map}
 use lib.ListN.{length-map}
-use Rattle.reply.specs.Parts.{statusOf}
+use Rattle.reply.specs.Parts.{statusNumbered}
 use Rattle.reply.proofs.Answers.{written-as, update-size, update-rest, update-is}
 use Rattle.reply.proofs.put_update_confirm.Statement.{statement}
 use Rattle.reply.proofs.put_update_confirm.Tie as tie
 
 mul-put-reply : tie.Need-mul-put-reply
 mul-put-reply c =
-    let a = c .before .before .before .before .before .args in record { fits = omega (arith, update-size (a .msgref .now) (map statusOf (a .codes .now)) (length-map (a .codes .now) statusOf)) }
+    let a = c .before .before .before .before .before .args in record { fits = omega (arith, update-size (a .msgref .now) (map statusNumbered (a .codes .now)) (length-map (a .codes .now) statusNumbered)) }
 
 put-reply-requires : tie.Need-put-reply-requires
 put-reply-requires c κs = let b = c .before .before .before .before .before in let a = b .args in (update-rest (a .msgref .now) (a .codes .now), omega (arith, ap length (update-is (a .msgref .now) (a .codes .now))))

@@ -1,5 +1,4 @@
 -- `reply::response_size` meets its contract. Assumes nothing.
-use borrow.Author.Needs.{needs}
 use native.Mathlib.Omega.{arith}
 use mathlib.Core.Path.{sym, _∙_}
 use Rattle.reply.proofs.Answers.{response-size}

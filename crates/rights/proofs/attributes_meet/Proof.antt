@@ -4,7 +4,7 @@ use borrow.Author.Needs.{needs}
 use mathlib.Core.Path.{_≡_, refl}
 use Rattle.octets.specs.Lists.{allOf}
 use Rattle.der.specs.Element.{elements}
-use Rattle.rights.specs.Places.{entryOf, attributeMeets}
+use Rattle.rights.specs.Places.{rightsEntry, attributeMeets}
 use Rattle.der.proofs.Runs.{run-less}
 use Rattle.der.proofs.Loops.{all-fails, all-later, all-passed}
 use Rattle.rights.proofs.attributes_meet.Statement.{statement}
@@ -12,7 +12,7 @@ use Rattle.rights.proofs.attributes_meet.Tie as tie
 
 abbrev Inv-loop : tie.InvT-loop
 Inv-loop v entry s stop i₀ i =
-    allOf (attributeMeets (entryOf v entry) s) (elements s i stop) ≡ allOf (attributeMeets (entryOf v entry) s) (elements s i₀ stop)
+    allOf (attributeMeets (rightsEntry v entry) s) (elements s i stop) ≡ allOf (attributeMeets (rightsEntry v entry) s) (elements s i₀ stop)
 
 abbrev μ-loop : tie.MeasureT-loop
 μ-loop v entry s stop i₀ i = stop - i

@@ -5,7 +5,7 @@ use mathlib.Core.Path.{_≡_, refl}
 use Rattle.der.specs.declared.Compared.the-variants.{Types}
 use Rattle.der.specs.Keys.{keysFrom}
 use Rattle.rights.specs.Decision.{findSome, attributeOutside}
-use Rattle.rights.specs.Places.{entryOf}
+use Rattle.rights.specs.Places.{rightsEntry}
 use Rattle.der.proofs.Runs.{run-less}
 use Rattle.rights.proofs.Engine.{pair-here, pair-later, pair-end}
 use Rattle.rights.proofs.pair_outside.Statement.{statement}
@@ -13,8 +13,8 @@ use Rattle.rights.proofs.pair_outside.Tie as tie
 
 abbrev Inv-loop : tie.InvT-loop
 Inv-loop signer s new n stop i₀ i =
-    findSome (attributeOutside (entryOf signer s .constraints) (entryOf new n .constraints)) (keysFrom Types signer i stop)
-    ≡ findSome (attributeOutside (entryOf signer s .constraints) (entryOf new n .constraints)) (keysFrom Types signer i₀ stop)
+    findSome (attributeOutside (rightsEntry signer s .constraints) (rightsEntry new n .constraints)) (keysFrom Types signer i stop)
+    ≡ findSome (attributeOutside (rightsEntry signer s .constraints) (rightsEntry new n .constraints)) (keysFrom Types signer i₀ stop)
 
 abbrev μ-loop : tie.MeasureT-loop
 μ-loop signer s new n stop i₀ i = stop - i

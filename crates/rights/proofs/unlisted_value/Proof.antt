@@ -2,7 +2,7 @@
 use Prim.Native.Nat.{_-_}
 use borrow.Author.Needs.{needs}
 use mathlib.Core.Path.{_≡_, refl}
-use Rattle.der.specs.declared.Compared.the-variants.{Octets}
+use Rattle.der.specs.declared.Compared.the-variants.{Encodings}
 use Rattle.der.specs.Keys.{keysFrom}
 use Rattle.rights.specs.Decision.{findSome, unlisted}
 use Rattle.rights.specs.Places.{valuesUnder}
@@ -13,8 +13,8 @@ use Rattle.rights.proofs.unlisted_value.Tie as tie
 
 abbrev Inv-loop : tie.InvT-loop
 Inv-loop signer a new stop i₀ i =
-    findSome (unlisted (valuesUnder signer a)) (keysFrom Octets new i stop)
-    ≡ findSome (unlisted (valuesUnder signer a)) (keysFrom Octets new i₀ stop)
+    findSome (unlisted (valuesUnder signer a)) (keysFrom Encodings new i stop)
+    ≡ findSome (unlisted (valuesUnder signer a)) (keysFrom Encodings new i₀ stop)
 
 abbrev μ-loop : tie.MeasureT-loop
 μ-loop signer a new stop i₀ i = stop - i

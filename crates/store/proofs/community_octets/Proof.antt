@@ -4,7 +4,7 @@ use Prim.Native.Nat.{ℕ}
 use mathlib.Core.Path.{_∙_, ap}
 use lib.ListN.{drop}
 use Rattle.store.specs.Parts.{communityPlace, communityCount, communityOctets}
-use Rattle.store.proofs.Walk.{names-part}
+use Rattle.store.proofs.Walk.{names-slice}
 use Rattle.store.proofs.community_octets.Statement.{statement}
 use Rattle.store.proofs.community_octets.Tie as tie
 
@@ -13,8 +13,8 @@ unfolding communityOctets communityCount
 returns c =
     let s = c .before .before .before .before .before .before .before .args .image .now in
     let place = c .before .before .before .before .before .community-place .ensures in
-    c .part .ensures
-    ∙ names-part s (communityPlace s) (c .before .before .before .before .behind .ensures ∙ ap (λ (p : ℕ). drop p s) place) (c .before .before .before .behind2 .ensures)
+    c .slice .ensures
+    ∙ names-slice s (communityPlace s) (c .before .before .before .before .after .ensures ∙ ap (λ (p : ℕ). drop p s) place) (c .before .before .before .after2 .ensures)
     (c .before .before .octet-at .ensures .0)
     (c .before .names-end .ensures)
 

@@ -8,8 +8,8 @@ use mathlib.Core.Logic.{⊎-elim}
 use mathlib.Core.Path.{_≡_, sym, ap, ap₂, _∙_}
 use lib.ListN.{drop}
 use Rattle.octets.specs.Octets.{same}
-use Rattle.store.specs.declared.Found.{Found}
-use Rattle.store.specs.declared.Found.the-variants as found
+use Rattle.store.specs.declared.FoundSigner.{FoundSigner}
+use Rattle.store.specs.declared.FoundSigner.the-variants as found
 use Rattle.store.specs.Records.{recordsFrom, recordsOf}
 use Rattle.store.specs.Signer.{signerFrom, signer}
 use Rattle.store.specs.Parts.{recordEnd, identifierIn}
@@ -47,11 +47,11 @@ loop-again c =
     ∙ ap (λ (k : List ℕ). same k (a .wanted .now)) (sym (c .before .before .before .identifier-of .ensures))
     ∙ sym (c .before .before .equal .ensures)
     in
-    let g : (m : Found) → missed (c .before .if1 .seen) ≡ m
+    let g : (m : FoundSigner) → missed (c .before .if1 .seen) ≡ m
     → signerFrom (l .i + 1) (map identifierIn (recordsFrom (l .left - 1) (drop (c .record-end .result) s))) (a .verdict .now) (a .wanted .now)
     (missed (c .before .if1 .seen))
     ≡ signerFrom (l .i + 1) (map identifierIn (recordsFrom (l .left - 1) (drop (recordEnd s (l .p)) s))) (a .verdict .now) (a .wanted .now) m = λ m q.
-    ap₂ (λ (p : ℕ) (m : Found). signerFrom (l .i + 1) (map identifierIn (recordsFrom (l .left - 1) (drop p s))) (a .verdict .now) (a .wanted .now) m)
+    ap₂ (λ (p : ℕ) (m : FoundSigner). signerFrom (l .i + 1) (map identifierIn (recordsFrom (l .left - 1) (drop p s))) (a .verdict .now) (a .wanted .now) m)
     (c .record-end .ensures) q
     in (
       omega arith,

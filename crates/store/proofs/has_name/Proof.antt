@@ -15,9 +15,6 @@ Inv-loop s p n wanted q₀ more₀ q more = member wanted (namesFrom more (drop 
 abbrev μ-loop : tie.MeasureT-loop
 μ-loop s p n wanted q₀ more₀ q more = more
 
-loop-holds : tie.Need-loop-holds Inv-loop μ-loop
-loop-holds c = refl
-
 returns : tie.Need-returns Inv-loop μ-loop
 returns c =
     let a = c .before .before .before .before .before .before .before .args in
@@ -48,7 +45,7 @@ has-name-spec =
     (tie.spec
     Inv-loop
     μ-loop
-    loop-holds
+    (λ c. refl)
     (λ c κs. search needs)
     (λ c κs. search needs)
     returns

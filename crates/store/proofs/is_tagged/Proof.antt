@@ -17,8 +17,8 @@ returns-2 c =
       tagged _ k (sym (c .before .before .before .before .octet-at .ensures .0)
           ∙ c .before .before .before .if1 .left),
       c .equal .ensures,
-      c .before .behind2 .ensures,
-      c .before .before .behind .ensures,
+      c .before .after2 .ensures,
+      c .before .before .after .ensures,
     )
 
 pub is-tagged-spec : {M : Type 1} → statement M

@@ -6,8 +6,5 @@ use lib.Dec.{eqb}
 use Rattle.store.proofs.is_verified.Statement.{statement}
 use Rattle.store.proofs.is_verified.Tie as tie
 
-returns : tie.Need-returns
-returns c = ap (λ (n : ℕ). eqb n 1) (c .octet-at .ensures .0)
-
 pub is-verified-spec : {M : Type 1} → statement M
-is-verified-spec = tie.close (tie.spec (λ c κs. search needs) returns)
+is-verified-spec = tie.close (tie.spec (λ c κs. search needs) (λ c. ap (λ (n : ℕ). eqb n 1) (c .octet-at .ensures .0)))

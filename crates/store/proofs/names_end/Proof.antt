@@ -2,7 +2,7 @@
 use borrow.Author.Needs.{needs}
 use Prim.Native.Nat.{ℕ, _≤_, _+_, _-_, min}
 use native.Mathlib.Omega.{arith}
-use mathlib.Core.Path.{_≡_, refl, sym, ap, _∙_}
+use mathlib.Core.Path.{_≡_, sym, ap, _∙_}
 use lib.ListN.{length, drop}
 use Rattle.store.specs.Parts.{nameEnd, namesSize}
 use Rattle.store.proofs.Walk.{sizes-turn}
@@ -14,9 +14,6 @@ Inv-loop s n p₀ left₀ p left = (p ≤ length s) × (min (p + namesSize left 
 
 abbrev μ-loop : tie.MeasureT-loop
 μ-loop s n p₀ left₀ p left = left
-
-loop-holds : tie.Need-loop-holds Inv-loop μ-loop
-loop-holds c = (omega arith, omega arith)
 
 loop-again : tie.Need-loop-again Inv-loop μ-loop
 unfolding nameEnd
@@ -37,4 +34,4 @@ returns c =
     omega (arith, rw z at (l .inv .1))
 
 pub names-end-spec : {M : Type 1} → statement M
-names-end-spec = tie.close (tie.spec Inv-loop μ-loop loop-holds (λ c κs. search needs) (λ c. search needs) (λ c. search needs) loop-again returns)
+names-end-spec = tie.close (tie.spec Inv-loop μ-loop (λ c. (omega arith, omega arith)) (λ c κs. search needs) (λ c. search needs) (λ c. search needs) loop-again returns)

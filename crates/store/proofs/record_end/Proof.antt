@@ -5,9 +5,6 @@ use Rattle.store.proofs.Walk.{end-is, end-short}
 use Rattle.store.proofs.record_end.Statement.{statement}
 use Rattle.store.proofs.record_end.Tie as tie
 
-returns : tie.Need-returns
-returns c = end-short (c .before .before .args .s .now) (c .before .before .args .p) (omega arith)
-
 returns-2 : tie.Need-returns-2
 returns-2 c = end-short (c .before .before .before .args .s .now) (c .before .before .before .args .p) (omega arith)
 
@@ -27,7 +24,7 @@ pub record-end-spec : {M : Type 1} → statement M
 record-end-spec =
     tie.close
     (tie.spec
-    returns
+    (λ c. end-short (c .before .before .args .s .now) (c .before .before .args .p) (omega arith))
     (λ c. search needs)
     returns-2
     (λ c. search needs)

@@ -6,7 +6,7 @@ use Rattle.store.proofs.serial.Tie as tie
 
 returns : tie.Need-returns
 unfolding serialIn
-returns c = rw (c .part .ensures, c .before .octet-at2 .ensures .0, c .before .before .octet-at .ensures .0)
+returns c = rw (c .slice .ensures, c .before .octet-at2 .ensures .0, c .before .before .octet-at .ensures .0)
 
 pub serial-spec : {M : Type 1} → statement M
 serial-spec =

@@ -30,12 +30,12 @@ find-type-spec =
     (λ c κs. search needs)
     (λ c.
     let l = c .before .before .before .before .before .loop in
-    let e = types-compared _ (l .k) (c .before .before .before .before .before .before .before .before .pre) (c .before .before .before .part .ensures) (c .before .before .equal .ensures) in
+    let e = types-compared _ (l .k) (c .before .before .before .before .before .before .before .before .pre) (c .before .before .before .slice .ensures) (c .before .before .equal .ensures) in
     ap Tamp (c .type-at .ensures) ∙ sym (types-here _ (l .k) (c .before .before .before .before .loop-test .taken) (sym e ∙ c .before .if1 .taken)) ∙ l .inv .1)
     (λ c. omega arith)
     (λ c. omega arith)
     (λ c.
     let l = c .before .before .before .before .loop in
-    let e = types-compared _ (l .k) (c .before .before .before .before .before .before .before .pre) (c .before .before .part .ensures) (c .before .equal .ensures) in
+    let e = types-compared _ (l .k) (c .before .before .before .before .before .before .before .pre) (c .before .before .slice .ensures) (c .before .equal .ensures) in
     (omega arith, sym (types-next _ (l .k) (c .before .before .before .loop-test .taken) (sym e ∙ c .if1 .left)) ∙ l .inv .1))
     (λ c. sym (types-end _ _ (c .loop-test .left)) ∙ c .before .loop .inv .1))

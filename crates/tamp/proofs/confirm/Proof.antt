@@ -5,9 +5,9 @@ use mathlib.Core.List.{List, map}
 use mathlib.Core.Path.{refl, ap}
 use lib.ListN.{length-map}
 use Rattle.octets.specs.Status.{success}
-use Rattle.der.specs.Element.{whole}
+use Rattle.der.specs.Element.{encoding}
 use Rattle.reply.specs.Replies.{updateConfirm}
-use Rattle.reply.specs.Parts.{statusOf}
+use Rattle.reply.specs.Parts.{statusNumbered}
 use Rattle.tamp.proofs.Answers.{too-long, written}
 use Rattle.tamp.proofs.Parts.{whole-fits}
 use borrow.Author.Needs.{needs}
@@ -19,22 +19,22 @@ update-size-requires c κs = let a = c .before .before .before .before .before .
 
 returns : tie.Need-returns
 returns c = let a = c .before .before .before .before .before .before .before .before .before .args in
-    too-long success (updateConfirm (whole (a .s .now) (a .q .msgref)) (map statusOf (a .codes .now))) (a .store .now) (a .reply .now) (a .next .now)
-    (ap (λ (m : List ℕ). updateConfirm m (map statusOf (a .codes .now))) (c .before .before .before .msg-ref .ensures))
-    (c .before .before .update-size .ensures (map statusOf (a .codes .now)) (length-map (a .codes .now) statusOf))
+    too-long success (updateConfirm (encoding (a .s .now) (a .q .msgref)) (map statusNumbered (a .codes .now))) (a .store .now) (a .reply .now) (a .next .now)
+    (ap (λ (m : List ℕ). updateConfirm m (map statusNumbered (a .codes .now))) (c .before .before .before .msg-ref .ensures))
+    (c .before .before .update-size .ensures (map statusNumbered (a .codes .now)) (length-map (a .codes .now) statusNumbered))
     (c .before .if1 .taken)
     (c .refusal .ensures)
 
 put-update-confirm-requires : tie.Need-put-update-confirm-requires
 put-update-confirm-requires c κs = let a = c .before .before .before .before .before .before .before .before .before .args in
-    omega (arith, c .before .before .update-size .ensures (map statusOf (a .codes .now)) (length-map (a .codes .now) statusOf), c .before .if1 .left, c .before .before .before .before .before .before .before .before .before .pre .0 .reply)
+    omega (arith, c .before .before .update-size .ensures (map statusNumbered (a .codes .now)) (length-map (a .codes .now) statusNumbered), c .before .if1 .left, c .before .before .before .before .before .before .before .before .before .pre .0 .reply)
 
 returns-2 : tie.Need-returns-2
 returns-2 c = let a = c .before .before .before .before .before .before .before .before .before .before .before .before .before .before .before .before .args in
-    written success (updateConfirm (whole (a .s .now) (a .q .msgref)) (map statusOf (a .codes .now))) (a .store .now) (a .reply .now) (a .next .now)
-    (ap (λ (m : List ℕ). updateConfirm m (map statusOf (a .codes .now))) (c .before .before .before .before .before .before .before .before .before .before .msg-ref .ensures))
+    written success (updateConfirm (encoding (a .s .now) (a .q .msgref)) (map statusNumbered (a .codes .now))) (a .store .now) (a .reply .now) (a .next .now)
+    (ap (λ (m : List ℕ). updateConfirm m (map statusNumbered (a .codes .now))) (c .before .before .before .before .before .before .before .before .before .before .msg-ref .ensures))
     refl
-    (c .before .before .before .before .before .before .before .before .before .update-size .ensures (map statusOf (a .codes .now)) (length-map (a .codes .now) statusOf))
+    (c .before .before .before .before .before .before .before .before .before .update-size .ensures (map statusNumbered (a .codes .now)) (length-map (a .codes .now) statusNumbered))
     (c .before .before .before .before .before .before .before .before .if1 .left)
     (c .before .before .before .before .before .before .put-update-confirm .ensures .0)
     (c .before .before .before .before .before .before .put-update-confirm .ensures .1)

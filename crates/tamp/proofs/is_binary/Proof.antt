@@ -14,9 +14,6 @@ Inv-loop verdict i₀ i = (i ≤ length verdict) × (binary (drop i verdict) ≡
 abbrev μ-loop : tie.MeasureT-loop
 μ-loop verdict i₀ i = length verdict - i
 
-loop-holds : tie.Need-loop-holds Inv-loop μ-loop
-loop-holds c = (omega arith, refl)
-
 returns : tie.Need-returns Inv-loop μ-loop
 returns c =
     let l = c .before .before .before .loop in
@@ -40,7 +37,7 @@ is-binary-spec =
     (tie.spec
     Inv-loop
     μ-loop
-    loop-holds
+    (λ c. (omega arith, refl))
     (λ c. search needs)
     returns
     (λ c. search needs)

@@ -55,12 +55,6 @@ returns c = let a = c .before .before .before .before .before .before .before .b
     (c .before .if1 .taken)
     (c .refusal .ensures)
 
-slice-reshare-prefix-put-status-response : tie.Need-slice-reshare-prefix-put-status-response
-slice-reshare-prefix-put-status-response c = numbered (c .before .before .before) .holds .inside
-
-slice-aggregate-put-status-response : tie.Need-slice-aggregate-put-status-response
-slice-aggregate-put-status-response c = sym (length-take-le _ _ (numbered (c .before .before .before .before) .holds .inside))
-
 put-status-response-requires : tie.Need-put-status-response-requires
 put-status-response-requires c κs =
     let k = c .before .before .before .before in
@@ -99,8 +93,8 @@ query-spec =
     (λ c κs. search needs)
     returns
     (λ c κs. search needs)
-    slice-reshare-prefix-put-status-response
-    slice-aggregate-put-status-response
+    (λ c. numbered (c .before .before .before) .holds .inside)
+    (λ c. sym (length-take-le _ _ (numbered (c .before .before .before .before) .holds .inside)))
     put-status-response-requires
     (λ c κs. search needs)
     (λ c. search needs)

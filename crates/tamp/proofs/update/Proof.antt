@@ -24,9 +24,6 @@ after : (c : tie.After-update) → Scratch (c .update .last .1 .1 .1 .1 .0) (c .
 after c = let w = numbered (c .before .before .before .before .before .before .before) in let d = c .update .ensures in
     record { room = omega (arith, w .room, d .room); store = _; holds = d .store (w .store) (w .holds) }
 
-array-share-prefix-work : tie.Need-array-share-prefix-work
-array-share-prefix-work c = numbered (c .before .before .before .before) .holds .inside
-
 slice-aggregate-error : tie.Need-slice-aggregate-error
 slice-aggregate-error c = sym (length-take-le _ _ (numbered (c .before .before .before .before .before) .holds .inside))
 
@@ -36,7 +33,7 @@ error-requires c κs = (start (c .before .before .before .before .before .before
 returns : tie.Need-returns
 returns c σ d = let k = c .before .before .before .before .before .before .before .before .before .before .before .before in let a = start k .args in let p = start k .pre in let h = written-holds (k .renumber .ensures σ d) (omega arith) in
     by-update (a .s .now) (a .q) (a .i) σ (a .reply .now) (a .next .now) (a .image .now) (octets k) (p .1) d (p .2)
-    (update-refused (a .s .now) (a .q) (c .before .before .before .before .before .before .before .before .before .before .updates-in .ensures) (c .before .before .before .before .before .before .before .before .before .count .ensures) _ _ (a .reply .now) (a .next .now)
+    (update-refused (a .s .now) (a .q) (c .before .before .before .before .before .before .before .before .before .before .updates-in .ensures) (c .before .before .before .before .before .before .before .before .before .entry-count .ensures) _ _ (a .reply .now) (a .next .now)
     (c .before .before .before .before .before .before .before .before .if1 .taken)
     h
     (c .before .before .before .before .error .ensures))
@@ -47,18 +44,12 @@ update-requires c κs = let k = c .before .before .before .before .before .befor
       asked = p .1 .asks;
       update = p .2;
       scratch = numbered k;
-      few = omega (arith, counted (a .s .now) (a .q) (c .before .before .before .before .updates-in .ensures) (c .before .before .before .count .ensures), c .before .before .if1 .left);
+      few = omega (arith, counted (a .s .now) (a .q) (c .before .before .before .before .updates-in .ensures) (c .before .before .before .entry-count .ensures), c .before .before .if1 .left);
       space = omega arith;
     }
 
 slice-aggregate-confirm : tie.Need-slice-aggregate-confirm
 slice-aggregate-confirm c = sym (length-take-le _ _ (omega (arith, c .before .before .before .before .before .before .if1 .left)))
-
-array-share-prefix-work-2 : tie.Need-array-share-prefix-work-2
-array-share-prefix-work-2 c = after (c .before .before .before) .holds .inside
-
-slice-aggregate-confirm-2 : tie.Need-slice-aggregate-confirm-2
-slice-aggregate-confirm-2 c = sym (length-take-le _ _ (after (c .before .before .before .before) .holds .inside))
 
 confirm-requires : tie.Need-confirm-requires
 confirm-requires c κs = let k = c .before .before .before .before .before .before .before .before .before .before .before .before .before in let w = numbered k in let d = c .before .before .before .before .before .before in
@@ -67,7 +58,7 @@ confirm-requires c κs = let k = c .before .before .before .before .before .befo
 returns-2 : tie.Need-returns-2
 returns-2 c σ d = let k = c .before .before .before .before .before .before .before .before .before .before .before .before .before .before .before .before .before .before in let a = start k .args in let p = start k .pre in let h = written-holds (k .renumber .ensures σ d) (omega arith) in
     by-update (a .s .now) (a .q) (a .i) σ (a .reply .now) (a .next .now) (a .image .now) (octets k) (p .1) d (p .2)
-    (update-confirmed (a .s .now) (a .q) (c .before .before .before .before .before .before .before .before .before .before .before .before .before .before .before .before .updates-in .ensures) (c .before .before .before .before .before .before .before .before .before .before .before .before .before .before .before .count .ensures) _ _ (a .reply .now) (a .next .now)
+    (update-confirmed (a .s .now) (a .q) (c .before .before .before .before .before .before .before .before .before .before .before .before .before .before .before .before .updates-in .ensures) (c .before .before .before .before .before .before .before .before .before .before .before .before .before .before .before .entry-count .ensures) _ _ (a .reply .now) (a .next .now)
     (c .before .before .before .before .before .before .before .before .before .before .before .before .before .before .if1 .left)
     _
     (c .before .before .before .before .before .before .before .before .before .before .before .update .ensures .store _ h)
@@ -82,7 +73,7 @@ update-spec =
     (λ c κs. search needs)
     (λ c κs. search needs)
     (λ c κs. search needs)
-    array-share-prefix-work
+    (λ c. numbered (c .before .before .before .before) .holds .inside)
     slice-aggregate-error
     error-requires
     (λ c. search needs)
@@ -93,8 +84,8 @@ update-spec =
     update-requires
     (λ c. search needs)
     slice-aggregate-confirm
-    array-share-prefix-work-2
-    slice-aggregate-confirm-2
+    (λ c. after (c .before .before .before) .holds .inside)
+    (λ c. sym (length-take-le _ _ (after (c .before .before .before .before) .holds .inside)))
     confirm-requires
     (λ c. search needs)
     (λ c. search needs)

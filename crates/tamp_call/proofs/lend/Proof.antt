@@ -5,12 +5,6 @@ use borrow.Author.Needs.{needs}
 use Rattle.tamp_call.proofs.lend.Statement.{statement}
 use Rattle.tamp_call.proofs.lend.Tie as tie
 
-slice-aggregate-print-call : tie.Need-slice-aggregate-print-call
-slice-aggregate-print-call c = sym (length-take-le _ _ (search needs))
-
-slice-aggregate-print-call-2 : tie.Need-slice-aggregate-print-call-2
-slice-aggregate-print-call-2 c = sym (length-take-le _ _ (search needs))
-
 pub lend-spec : {M : Type 1} → statement M
 lend-spec =
     tie.close
@@ -20,9 +14,9 @@ lend-spec =
     (λ c κs. search needs)
     (λ c. search needs)
     (λ c. search needs)
-    slice-aggregate-print-call
+    (λ c. sym (length-take-le _ _ (search needs)))
     (λ c. search needs)
-    slice-aggregate-print-call-2
+    (λ c. sym (length-take-le _ _ (search needs)))
     (λ c κs. search needs)
     (λ c. search needs)
     (λ c. search needs)

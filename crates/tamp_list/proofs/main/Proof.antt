@@ -8,9 +8,6 @@ use Rattle.listing.proofs.Bounds.{text-fits}
 use Rattle.tamp_list.proofs.main.Statement.{statement}
 use Rattle.tamp_list.proofs.main.Tie as tie
 
-array-share-prefix-text : tie.Need-array-share-prefix-text
-array-share-prefix-text c = text-fits _ _ _ (length-replicate {A = ℕ} 8192 0) (c .list .ensures)
-
 slice-aggregate-write-all : tie.Need-slice-aggregate-write-all
 slice-aggregate-write-all c = sym (length-take-le _ _ (text-fits _ _ _ (length-replicate {A = ℕ} 8192 0) (c .before .list .ensures)))
 
@@ -23,7 +20,7 @@ main-spec =
     (λ c. search needs)
     (λ c. search needs)
     (λ c κs. search needs)
-    array-share-prefix-text
+    (λ c. text-fits _ _ _ (length-replicate {A = ℕ} 8192 0) (c .list .ensures))
     slice-aggregate-write-all
     (λ c κs. search needs)
     (λ c. search needs))

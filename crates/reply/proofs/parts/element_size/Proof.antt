@@ -5,11 +5,5 @@ use Rattle.reply.proofs.Elements.{length-octets}
 use Rattle.reply.proofs.parts.element_size.Statement.{statement}
 use Rattle.reply.proofs.parts.element_size.Tie as tie
 
-add-result : tie.Need-add-result
-add-result c = omega (arith, c .header-size .ensures, length-octets (c .before .args .n))
-
-returns : tie.Need-returns
-returns c = omega (arith, c .header-size .ensures, length-octets (c .before .args .n))
-
 pub element-size-spec : {M : Type 1} → statement M
-element-size-spec = tie.close (tie.spec (λ c κs. search needs) add-result returns)
+element-size-spec = tie.close (tie.spec (λ c κs. search needs) (λ c. omega (arith, c .header-size .ensures, length-octets (c .before .args .n))) (λ c. omega (arith, c .header-size .ensures, length-octets (c .before .args .n))))

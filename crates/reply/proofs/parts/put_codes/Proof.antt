@@ -2,22 +2,19 @@
 use Prim.Native.Nat.{_-_, _≤_}
 use native.Mathlib.Omega.{arith}
 use borrow.Author.Needs.{needs}
-use mathlib.Core.Path.{_≡_, refl}
+use mathlib.Core.Path.{_≡_}
 use lib.ListN.{length, drop, getD}
 use Rattle.reply.specs.Parts.{statusCodes}
-use Rattle.octets.proofs.Turns.{Left, left-start, left-end, left-fits, left-step}
+use Rattle.octets.proofs.Turns.{Unwritten, left-start, left-end, left-fits, left-step}
 use Rattle.reply.proofs.Codes.{one-code, codes-from, codes-end}
 use Rattle.reply.proofs.parts.put_codes.Statement.{statement}
 use Rattle.reply.proofs.parts.put_codes.Tie as tie
 
 abbrev Inv-loop : tie.InvT-loop
-Inv-loop buf₀ at codes p₀ i₀ buf p i = (i ≤ length codes) × Left buf₀ at (statusCodes codes) buf p (statusCodes (drop i codes))
+Inv-loop buf₀ at codes p₀ i₀ buf p i = (i ≤ length codes) × Unwritten buf₀ at (statusCodes codes) buf p (statusCodes (drop i codes))
 
 abbrev μ-loop : tie.MeasureT-loop
 μ-loop buf₀ at codes p₀ i₀ buf p i = length codes - i
-
-loop-holds : tie.Need-loop-holds Inv-loop μ-loop
-loop-holds c = (omega arith, left-start _ _ _)
 
 put-octets-requires : tie.Need-put-octets-requires Inv-loop μ-loop
 put-octets-requires c κs =
@@ -34,9 +31,6 @@ loop-again c =
           (codes-from (b .args .codes .now) (l .i) (c .before .before .before .before .before .before .loop-test .taken)) (c .before .before .put-octets .ensures),
     )
 
-same-length : tie.Need-same-length Inv-loop μ-loop
-same-length c = c .before .loop .inv .1 .size
-
 returns : tie.Need-returns Inv-loop μ-loop
 returns c =
     let a = c .before .before .before .before .args in
@@ -50,12 +44,12 @@ put-codes-spec =
     (tie.spec
     Inv-loop
     μ-loop
-    loop-holds
+    (λ c. (omega arith, left-start _ _ _))
     (λ c. search needs)
     (λ c. search needs)
     put-octets-requires
     (λ c. search needs)
     (λ c. search needs)
     loop-again
-    same-length
+    (λ c. c .before .loop .inv .1 .size)
     returns)

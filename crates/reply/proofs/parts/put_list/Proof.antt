@@ -1,10 +1,8 @@
 -- `reply::parts::put_list` meets its contract. Assumes nothing.
 use borrow.Author.Needs.{needs}
 use native.Mathlib.Omega.{arith}
-use mathlib.Core.Path.{refl}
 use Rattle.octets.proofs.Turns.{nothing-written}
 use Rattle.der.specs.Write.{header}
-use Rattle.reply.specs.Parts.{membersFrom}
 use Rattle.reply.proofs.Elements.{first-fits, second-fits, both-written}
 use Rattle.reply.proofs.Members.{list-none, list-length, list-header}
 use Rattle.reply.proofs.parts.put_list.Statement.{statement}

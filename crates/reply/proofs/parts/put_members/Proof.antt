@@ -1,10 +1,9 @@
 -- `reply::parts::put_members` meets its contract. The loop's invariant: the members from p on are left to be written. Assumes nothing.
 use borrow.Author.Needs.{needs}
-use mathlib.Core.Path.{refl, ap, _∙_}
-use mathlib.Core.List.{List, _++_}
-use Prim.Native.Nat.{ℕ}
+use mathlib.Core.Path.{refl}
+use mathlib.Core.List.{_++_}
 use lib.ListN.{length, drop}
-use Rattle.octets.proofs.Turns.{Left, left-start, left-fits, left-step, left-end}
+use Rattle.octets.proofs.Turns.{Unwritten, left-start, left-fits, left-step, left-end}
 use Rattle.der.specs.Write.{header}
 use Rattle.reply.specs.Parts.{membersFrom}
 use Rattle.reply.proofs.Members.{members-header, members-end}
@@ -12,7 +11,7 @@ use Rattle.reply.proofs.parts.put_members.Statement.{statement}
 use Rattle.reply.proofs.parts.put_members.Tie as tie
 
 abbrev Inv-loop : tie.InvT-loop
-Inv-loop buf₀ at by rows n tag to₀ p₀ left₀ buf to p left = Left buf₀ at (membersFrom by n rows) buf to (membersFrom by left (drop p rows))
+Inv-loop buf₀ at by rows n tag to₀ p₀ left₀ buf to p left = Unwritten buf₀ at (membersFrom by n rows) buf to (membersFrom by left (drop p rows))
 
 abbrev μ-loop : tie.MeasureT-loop
 μ-loop buf₀ at by rows n tag to₀ p₀ left₀ buf to p left = left
@@ -36,9 +35,6 @@ loop-again c =
     (members-header (a .by) (a .rows .now) (l .p) (l .left) (c .before .before .before .before .before .before .loop-test .taken) (c .before .before .before .before .before .before .before .before .tag .ensures) (c .before .before .before .before .before .member .ensures) (c .member-end .ensures))
     (c .before .before .before .put-header .ensures)
 
-same-length : tie.Need-same-length Inv-loop μ-loop
-same-length c = c .before .loop .inv .size
-
 returns : tie.Need-returns Inv-loop μ-loop
 returns c =
     let a = c .before .before .before .before .before .args in
@@ -59,5 +55,5 @@ put-members-spec =
     (λ c. search needs)
     (λ c. search needs)
     loop-again
-    same-length
+    (λ c. c .before .loop .inv .size)
     returns)

@@ -7,7 +7,7 @@ use mathlib.Core.Bool.{true, _&&_, and-eq-true-iff}
 use lib.Dec.{eqb}
 use borrow.Author.Needs.{needs}
 use borrow.Author.Tests.{not-true, not-false, leb-true, eqb-true}
-use Rattle.der.proofs.Elements.{good-within}
+use Rattle.der.proofs.Elements.{valid-within}
 use Rattle.der.proofs.Fits.{then-fits, then-breaks}
 use Rattle.syntax.specs.Grammar.{many, fit}
 use Rattle.syntax.specs.Rows.{grammarOf, RowIs}
@@ -15,7 +15,7 @@ use Rattle.syntax.proofs.Rows.{first-fits}
 use Rattle.syntax.proofs.Window.{own}
 use Rattle.syntax.proofs.Match.{Met, met}
 use Rattle.syntax.proofs.RowSteps.{lone-other, lone-here, rule-alone, field-kind, rule-kind, row-free, row-end, row-end-breaks, row-many, row-rule}
-use Rattle.syntax.proofs.RowSteps.{many-end, many-broken, many-turn, row-stands, behind-goes, behind-breaks}
+use Rattle.syntax.proofs.RowSteps.{many-end, many-broken, many-turn, row-stands, after-goes, after-breaks}
 use Rattle.syntax.proofs.RowSteps.{field-none, field-broken, field-any, field-one, field-other, field-here}
 use Rattle.syntax.proofs.Cycle.{byRow, ofBody, reached, below}
 use borrow.Fn.PlainCycle.{Measures}
@@ -88,7 +88,7 @@ row-μ table given n s at stop outer k₀ row₀ i₀ k row i = k
 -- where an element of a field has been read
 field-met : (t : ℕ) (w : field-lts.Else2 (field-claims t) (reached field-kinds.ps byBody fit-field.Pre t) fit-field.Post)
     → Met (w .before .before .before .before .before .before .args .s .now) (w .before .before .before .before .before .before .args .at) (w .before .before .before .before .before .before .args .stop) (w .before .before .element-at .result)
-field-met t w = record { is = w .before .before .element-at .ensures; room = w .before .before .before .if1 .left; good = not-false _ (w .if2 .left) }
+field-met t w = record { is = w .before .before .element-at .ensures; room = w .before .before .before .if1 .left; valid = not-false _ (w .if2 .left) }
 
 -- where the row of a member is that of one field
 member-lone : (t : ℕ) (w : member-lts.Else1 (member-claims t) (reached member-kinds.ps byMember fit-member.Pre t) fit-member.Post)
@@ -122,14 +122,14 @@ pub +fit-body+fit-each+fit-field+fit-member+fit-rest+fit-row-spec : {M : Type 1}
     (λ c κs.
     let p = c .before .before .before .before .before .before .before .pre in
     let e = own _ _ _ (c .before .before .element-at .ensures) (not-false _ (c .if1 .left)) in
-    (omega arith, (p .1 .0, (p .1 .1, (e .is, e .good)))))
+    (omega arith, (p .1 .0, (p .1 .1, (e .is, e .valid)))))
     (λ c. search needs)
     (λ c.
     sym
     (c .before .before .before .before .before .before .before .before .loop .inv
     ∙ many-turn _ _ _ _ _ (c .before .before .before .before .before .before .element-at .ensures) (not-false _ (c .before .before .before .before .if1 .left)) ∙ then-breaks _ (sym (c .before .before .before .fit-member .ensures) ∙ c .before .o .given .1)))
     (λ c. search needs)
-    (λ c. let w = good-within _ _ _ (c .before .before .before .before .before .element-at .ensures) (not-false _ (c .before .before .before .if1 .left)) in omega arith)
+    (λ c. let w = valid-within _ _ _ (c .before .before .before .before .before .element-at .ensures) (not-false _ (c .before .before .before .if1 .left)) in omega arith)
     (λ c.
     c .before .before .before .before .before .before .before .loop .inv
     ∙ many-turn _ _ _ _ _ (c .before .before .before .before .before .element-at .ensures) (not-false _ (c .before .before .before .if1 .left)) ∙ then-fits _ (sym (c .before .before .fit-member .ensures) ∙ c .enum-told .given .1))
@@ -197,14 +197,14 @@ pub +fit-body+fit-each+fit-field+fit-member+fit-rest+fit-row-spec : {M : Type 1}
     let r = c .before .before .loop .inv .1 .0 in
     (omega (arith, row-field t c), record { table-is = p .1 .0; inside = omega arith; field = sym (c .before .is-field .ensures) ∙ c .if1 .taken }))
     (λ c. search needs)
-    (λ c. let v = c .before .before .before .before .before .before .loop .inv .1 in sym (v .1 ∙ behind-breaks (v .0) _ _ _ _ _ (c .before .before .before .fit-field .ensures) (c .before .o .given .1)))
+    (λ c. let v = c .before .before .before .before .before .before .loop .inv .1 in sym (v .1 ∙ after-breaks (v .0) _ _ _ _ _ (c .before .before .before .fit-field .ensures) (c .before .o .given .1)))
     (λ c. search needs)
     (λ c κs. let r = c .before .before .before .before .before .before .loop .inv .1 .0 in (c .before .before .before .before .before .before .before .before .before .before .pre .1 .0, omega arith))
     (λ c. let r = c .before .before .before .before .before .before .before .loop .inv .1 .0 in omega (arith, row-field t (c .before .before .before .before .before)))
     (λ c.
     let v = c .before .before .before .before .before .before .before .loop .inv .1 in
     let r = v .0 in
-    (omega (arith, row-field t (c .before .before .before .before .before)), (c .row-at2 .ensures, v .1 ∙ behind-goes r _ _ _ _ _ (c .before .before .before .before .fit-field .ensures) (c .before .before .p .given .1))))
+    (omega (arith, row-field t (c .before .before .before .before .before)), (c .row-at2 .ensures, v .1 ∙ after-goes r _ _ _ _ _ (c .before .before .before .before .fit-field .ensures) (c .before .before .p .given .1))))
     (λ c κs.
     let p = c .before .before .before .before .before .before .pre in
     let r = c .before .before .loop .inv .1 .0 in

@@ -9,5 +9,5 @@ pub check-rule-spec : {M : Type 1} → statement M
 check-rule-spec =
     tie.close
     (tie.spec (λ c κs. search needs) (λ c κs. search needs)
-    (λ c. rw (← c .before .before .part .ensures) (sym (held-fits _ (sym (c .before .keeps .ensures) ∙ c .if1 .taken))))
-    (λ c. rw (← c .before .before .part .ensures) (sym (held-breaks _ (sym (c .before .keeps .ensures) ∙ c .if1 .left)))))
+    (λ c. rw (← c .before .before .slice .ensures) (sym (held-fits _ (sym (c .before .keeps .ensures) ∙ c .if1 .taken))))
+    (λ c. rw (← c .before .before .slice .ensures) (sym (held-breaks _ (sym (c .before .keeps .ensures) ∙ c .if1 .left)))))

@@ -4,7 +4,7 @@ use native.Mathlib.Omega.{arith}
 use mathlib.Core.Path.{_≡_, refl, sym, _∙_}
 use borrow.Author.Needs.{needs}
 use borrow.Author.Tests.{not-true, not-false}
-use Rattle.der.proofs.Elements.{good-within}
+use Rattle.der.proofs.Elements.{valid-within}
 use Rattle.syntax.specs.Grammar.{many}
 use Rattle.syntax.specs.Rows.{grammarOf, RowIs}
 use Rattle.syntax.specs.Whole.{conformsIn}
@@ -27,13 +27,13 @@ use Rattle.syntax.proofs.walk.+conform_each+conform_field+conform_rest+
 use Rattle.der.proofs.element_at.Reads as element-at
 use Rattle.der.proofs.check_element.Reads as check-element
 use Rattle.der.proofs.check_run.Reads as check-run
-use Rattle.octets.proofs.part.Reads as part
+use Rattle.octets.proofs.slice.Reads as slice
 use Rattle.syntax.proofs.row.is_field.Reads as is-field
 use Rattle.syntax.proofs.row.keeps.Reads as keeps
 use Rattle.syntax.proofs.row.left_out.Reads as left-out
 use Rattle.syntax.proofs.row.row_at.Reads as row-at
 use Rattle.octets.proofs.wide.Reads as wide
-use Rattle.syntax.proofs.walk.behind_if.Reads as behind-if
+use Rattle.syntax.proofs.walk.after_if.Reads as after-if
 use Rattle.syntax.proofs.walk.conform_leaf.Reads as conform-leaf
 use Rattle.syntax.proofs.walk.is_entered.Reads as is-entered
 use Rattle.syntax.proofs.walk.is_kept.Reads as is-kept
@@ -58,8 +58,8 @@ field-claims t = (
   check-element.Learnt,
   is-kept.Asked,
   is-kept.Learnt,
-  behind-if.Asked,
-  behind-if.Learnt,
+  after-if.Asked,
+  after-if.Learnt,
   below ps (byRow 2) conform-row.Pre t,
   conform-row.Post,
   wide.Asked,
@@ -71,7 +71,7 @@ field-claims t = (
 )
 
 abbrev rest-claims : ℕ → rest-lts.Claims
-rest-claims t = (check-run.Asked, check-run.Learnt, is-kept.Asked, is-kept.Learnt, below ps (byRow 3) conform-each.Pre t, conform-each.Post, below ps (byRow 2) conform-row.Pre t, conform-row.Post, part.Asked, part.Learnt, keeps.Asked, keeps.Learnt)
+rest-claims t = (check-run.Asked, check-run.Learnt, is-kept.Asked, is-kept.Learnt, below ps (byRow 3) conform-each.Pre t, conform-each.Post, below ps (byRow 2) conform-row.Pre t, conform-row.Post, slice.Asked, slice.Learnt, keeps.Asked, keeps.Learnt)
 
 abbrev row-claims : ℕ → row-lts.Claims
 row-claims t = (row-at.Asked, row-at.Learnt, is-field.Asked, is-field.Learnt, below field-kinds.ps byBody conform-field.Pre t, conform-field.Post, below field-kinds.ps byBody conform-rest.Pre t, conform-rest.Post)
@@ -93,7 +93,7 @@ row-μ table given n s at stop depth k₀ row₀ i₀ k row i = k
 -- where an element of a field has been read
 field-met : (t : ℕ) (w : field-lts.Else2 (field-claims t) (reached field-kinds.ps byBody conform-field.Pre t) conform-field.Post)
     → Met (w .before .before .before .before .before .before .args .s .now) (w .before .before .before .before .before .before .args .at) (w .before .before .before .before .before .before .args .stop) (w .before .before .element-at .result)
-field-met t w = record { is = w .before .before .element-at .ensures; room = w .before .before .before .if1 .left; good = not-false _ (w .if2 .left) }
+field-met t w = record { is = w .before .before .element-at .ensures; room = w .before .before .before .if1 .left; valid = not-false _ (w .if2 .left) }
 
 -- where the kind is none of free, end and many
 rest-rule : (t : ℕ) (w : rest-lts.Else3 (rest-claims t) (reached field-kinds.ps byBody conform-rest.Pre t) conform-rest.Post) → 7 ≤ w .before .before .before .before .before .before .before .before .args .row .kind
@@ -116,7 +116,7 @@ pub +conform-each+conform-field+conform-rest+conform-row-spec : {M : Type 1} →
     sym
     (c .before .before .before .before .before .before .loop .inv outer
     ∙ whole-goes _ _ _ _ _ outer (c .before .before .before .before .element-at .ensures) (not-false _ (c .before .before .if1 .left)) (sym (c .before .conform-row .ensures outer) ∙ not-true _ (c .if2 .taken))))
-    (λ c. let w = good-within _ _ _ (c .before .before .before .before .element-at .ensures) (not-false _ (c .before .before .if1 .left)) in omega arith)
+    (λ c. let w = valid-within _ _ _ (c .before .before .before .before .element-at .ensures) (not-false _ (c .before .before .if1 .left)) in omega arith)
     (λ c outer.
     c .before .before .before .before .before .before .loop .inv outer
     ∙ whole-goes _ _ _ _ _ outer (c .before .before .before .before .element-at .ensures) (not-false _ (c .before .before .if1 .left)) (sym (c .before .conform-row .ensures outer) ∙ not-false _ (c .if2 .left)))
@@ -130,10 +130,10 @@ pub +conform-each+conform-field+conform-rest+conform-row-spec : {M : Type 1} →
     (λ c κs. search needs)
     (λ c κs. search needs)
     (λ c outer.
-    whole-any (c .before .before .before .before .before .before .before .before .before .before .before .pre .1) _ _ _ _ _ outer (field-met t (c .before .before .before .before .before)) (c .before .before .before .if3 .taken) (c .before .before .check-element .ensures) (c .before .is-kept .ensures) (c .behind-if .ensures))
+    whole-any (c .before .before .before .before .before .before .before .before .before .before .before .pre .1) _ _ _ _ _ outer (field-met t (c .before .before .before .before .before)) (c .before .before .before .if3 .taken) (c .before .before .check-element .ensures) (c .before .is-kept .ensures) (c .after-if .ensures))
     (λ c κs. let p = c .before .before .before .before .before .before .before .before .before .before .pre in (omega arith, (p .1 .table-is, p .1 .inside)))
     (λ c κs. search needs)
-    (λ c outer. whole-one (c .before .before .before .before .before .before .before .before .before .before .before .before .pre .1) _ _ _ _ _ outer (field-met t (c .before .before .before .before .before .before)) (c .before .conform-row .ensures outer) (c .behind-if2 .ensures) (c .before .before .if4 .taken))
+    (λ c outer. whole-one (c .before .before .before .before .before .before .before .before .before .before .before .before .pre .1) _ _ _ _ _ outer (field-met t (c .before .before .before .before .before .before)) (c .before .conform-row .ensures outer) (c .after-if2 .ensures) (c .before .before .if4 .taken))
     (λ c κs. search needs)
     (λ c κs. search needs)
     (λ c outer.
@@ -149,14 +149,14 @@ pub +conform-each+conform-field+conform-rest+conform-row-spec : {M : Type 1} →
     let m = field-met t (c .before .before .before .before .before .before .before .before .before .before .before) in
     whole-here (c .before .before .before .before .before .before .before .before .before .before .before .before .before .before .before .before .before .pre .1) _ _ _ _ _ outer m refl (c .before .before .before .before .before .before .before .before .before .if3 .left) (c .before .before .before .before .before .before .before .if4 .left) (sym (c .before .before .before .before .before .before .wide .ensures) ∙ sym (c .before .before .before .before .if5 .left))
     (by-run _ _ _ _ _ m (c .before .before .before .before .before .before .before .before .before .before .before .before .before .before .before .before .before .args .row .body) (sym (c .before .before .before .is-entered .ensures) ∙ c .before .before .if6 .taken) (c .before .conform-row2 .ensures _))
-    (c .behind-if3 .ensures))
+    (c .after-if3 .ensures))
     (λ c κs. let p = c .before .before .before .before .before .before .before .before .before .before .before .before .before .before .before .pre .1 in (p .table-is, p .inside))
     (λ c κs. search needs)
     (λ c outer.
     let m = field-met t (c .before .before .before .before .before .before .before .before .before .before .before) in
     whole-here (c .before .before .before .before .before .before .before .before .before .before .before .before .before .before .before .before .before .pre .1) _ _ _ _ _ outer m refl (c .before .before .before .before .before .before .before .before .before .if3 .left) (c .before .before .before .before .before .before .before .if4 .left) (sym (c .before .before .before .before .before .before .wide .ensures) ∙ sym (c .before .before .before .before .if5 .left))
     (by-leaf _ _ _ _ _ m (c .before .conform-leaf .ensures))
-    (c .behind-if4 .ensures)))
+    (c .after-if4 .ensures)))
     (λ t. rest-lts.spec (rest-claims t) (reached field-kinds.ps byBody conform-rest.Pre t) conform-rest.Post
     (λ c κs. search needs)
     (λ c κs. search needs)
@@ -170,7 +170,7 @@ pub +conform-each+conform-field+conform-rest+conform-row-spec : {M : Type 1} →
     (λ c κs. search needs)
     (λ c κs. search needs)
     (λ c outer.
-    (rw (c .before .part .ensures) at (c .keeps .ensures))
+    (rw (c .before .slice .ensures) at (c .keeps .ensures))
     ∙ whole-rule (c .before .before .before .before .before .before .before .before .before .before .before .before .before .pre .1) _ _ _ _ _ outer (rest-rule t (c .before .before .before .before .before)) (sym (c .before .before .before .before .conform-row .ensures outer) ∙ not-false _ (c .before .before .before .if4 .left))))
     (λ t. row-lts.spec (row-claims t) (reached ps (byRow 2) conform-row.Pre t) conform-row.Post row-Inv row-μ
     (λ c κs. c .before .before .pre .1)

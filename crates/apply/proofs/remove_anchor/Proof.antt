@@ -3,14 +3,8 @@ use mathlib.Core.Path.{sym}
 use lib.Seq.{length-take-le}
 use Rattle.apply.proofs.Held.{few, cut-bounds, cut-done}
 use borrow.Author.Needs.{needs}
-use Rattle.apply.proofs.cut.Statement.{statement}
-use Rattle.apply.proofs.cut.Tie as tie
-
-slice-aggregate-anchor-place : tie.Need-slice-aggregate-anchor-place
-slice-aggregate-anchor-place c = sym (length-take-le _ _ (c .before .before .pre .holds .inside))
-
-slice-aggregate-anchor-count : tie.Need-slice-aggregate-anchor-count
-slice-aggregate-anchor-count c = sym (length-take-le _ _ (c .before .before .before .before .pre .holds .inside))
+use Rattle.apply.proofs.remove_anchor.Statement.{statement}
+use Rattle.apply.proofs.remove_anchor.Tie as tie
 
 sub-items : tie.Need-sub-items
 sub-items c = few (c .before .before .before .before .before .pre .store) _ _ (c .before .before .before .before .before .pre .holds) (c .anchor-count .ensures) .0
@@ -38,15 +32,15 @@ returns c =
     (c .before .before .replace-items .ensures)
     (search needs)
 
-pub cut-spec : {M : Type 1} → statement M
-cut-spec =
+pub remove-anchor-spec : {M : Type 1} → statement M
+remove-anchor-spec =
     tie.close
     (tie.spec
     (λ c. search needs)
-    slice-aggregate-anchor-place
+    (λ c. sym (length-take-le _ _ (c .before .before .pre .holds .inside)))
     (λ c κs. search needs)
     (λ c. search needs)
-    slice-aggregate-anchor-count
+    (λ c. sym (length-take-le _ _ (c .before .before .before .before .pre .holds .inside)))
     (λ c κs. search needs)
     sub-items
     (λ c. search needs)

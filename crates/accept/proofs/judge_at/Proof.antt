@@ -1,9 +1,9 @@
--- `accept::weigh` meets its contract. Assumes nothing.
+-- `accept::judge_at` meets its contract. Assumes nothing.
 use borrow.Author.Needs.{needs}
 use mathlib.Core.Path.{sym, _∙_}
 use Rattle.accept.proofs.Rows.{store-11, store-21, weigh-refuses, weigh-accepts}
-use Rattle.accept.proofs.weigh.Statement.{statement}
-use Rattle.accept.proofs.weigh.Tie as tie
+use Rattle.accept.proofs.judge_at.Statement.{statement}
+use Rattle.accept.proofs.judge_at.Tie as tie
 
 returns : tie.Need-returns
 returns c asks below =
@@ -40,8 +40,8 @@ returns-2 c asks below =
     (r21 .or-if2 .ensures)
     (sym (c .before .refuses .ensures) ∙ c .if1 .left)
 
-pub weigh-spec : {M : Type 1} → statement M
-weigh-spec =
+pub judge-at-spec : {M : Type 1} → statement M
+judge-at-spec =
     tie.close
     (tie.spec
     (λ c κs. search needs)

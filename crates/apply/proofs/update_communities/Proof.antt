@@ -1,19 +1,13 @@
 use lib.Dec.{lit≤}
-use mathlib.Core.Path.{sym, ap, _∙_}
+use mathlib.Core.Path.{sym, ap}
 use mathlib.Core.List.{List}
 use Prim.Native.Nat.{ℕ, _+_}
 use lib.ListN.{length}
 use lib.Seq.{length-take-le}
 use Rattle.apply.proofs.TwoLists.{put-bounds, put-few, put-addable, put-full, put-names, put-done}
 use borrow.Author.Needs.{needs}
-use Rattle.apply.proofs.put_communities.Statement.{statement}
-use Rattle.apply.proofs.put_communities.Tie as tie
-
-slice-aggregate-after-removals : tie.Need-slice-aggregate-after-removals
-slice-aggregate-after-removals c = sym (length-take-le _ _ (c .before .before .before .pre .scratch .holds .inside))
-
-after-removals-requires : tie.Need-after-removals-requires
-after-removals-requires c κs = (put-few (c .before .before .before .before .pre .scratch), lit≤ tt)
+use Rattle.apply.proofs.update_communities.Statement.{statement}
+use Rattle.apply.proofs.update_communities.Tie as tie
 
 add-names-requires : tie.Need-add-names-requires
 add-names-requires c κs = put-addable _ (c .before .before .before .before .before .before .before .pre) (c .before .before .after-removals .ensures .1)
@@ -39,14 +33,14 @@ replace-requires c κs = put-bounds _ (c .before .before .before .before .before
 returns-2 : tie.Need-returns-2
 returns-2 c = put-done _ (c .before .before .before .before .before .before .before .before .before .before .before .before .before .before .before .before .before .before .before .before .before .before .pre) (c .before .before .before .before .before .before .before .before .before .before .before .before .before .before .before .before .before .after-removals .ensures .1) (c .before .before .before .before .before .before .before .before .before .before .before .before .before .before .add-names .ensures) (c .before .before .before .before .before .before .before .before .before .before .before .n .given .1) (c .before .before .before .before .before .before .before .before .community-place .ensures) (ap (λ (s : List ℕ). length s + 1) (c .before .before .before .before .before .before .community-octets .ensures)) (c .before .before .replace .ensures)
 
-pub put-communities-spec : {M : Type 1} → statement M
-put-communities-spec =
+pub update-communities-spec : {M : Type 1} → statement M
+update-communities-spec =
     tie.close
     (tie.spec
     (λ c. search needs)
-    slice-aggregate-after-removals
+    (λ c. sym (length-take-le _ _ (c .before .before .before .pre .scratch .holds .inside)))
     (λ c. search needs)
-    after-removals-requires
+    (λ c κs. (put-few (c .before .before .before .before .pre .scratch), lit≤ tt))
     (λ c. search needs)
     add-names-requires
     (λ c. search needs)

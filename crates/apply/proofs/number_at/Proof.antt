@@ -5,11 +5,8 @@ use mathlib.Core.Path.{sym, ap, _∙_}
 use lib.Seq.{length-take-le}
 use native.Mathlib.Omega.{arith}
 use borrow.Author.Needs.{needs}
-use Rattle.apply.proofs.stamp_at.Statement.{statement}
-use Rattle.apply.proofs.stamp_at.Tie as tie
-
-slice-aggregate-record-at : tie.Need-slice-aggregate-record-at
-slice-aggregate-record-at c = sym (length-take-le _ _ (c .before .before .before .pre .holds .inside))
+use Rattle.apply.proofs.number_at.Statement.{statement}
+use Rattle.apply.proofs.number_at.Tie as tie
 
 returns : tie.Need-returns
 returns c = stamp-other (c .before .before .before .before .before .before .before .pre) (c .before .before .identifier-of .ensures ∙ ap identifierIn (c .before .before .before .record-at .ensures)) _ (c .before .equal .ensures) (not-true _ (c .if1 .taken))
@@ -22,12 +19,12 @@ set-number-requires c κs =
 returns-2 : tie.Need-returns-2
 returns-2 c = stamp-set (c .before .before .before .before .before .before .before .before .before .before .before .pre) (c .before .before .before .before .before .before .identifier-of .ensures ∙ ap identifierIn (c .before .before .before .before .before .before .before .record-at .ensures)) _ (c .before .before .before .before .before .equal .ensures) (not-false _ (c .before .before .before .before .if1 .left)) (c .before .before .set-number .ensures)
 
-pub stamp-at-spec : {M : Type 1} → statement M
-stamp-at-spec =
+pub number-at-spec : {M : Type 1} → statement M
+number-at-spec =
     tie.close
     (tie.spec
     (λ c. search needs)
-    slice-aggregate-record-at
+    (λ c. sym (length-take-le _ _ (c .before .before .before .pre .holds .inside)))
     (λ c κs. search needs)
     (λ c κs. search needs)
     (λ c κs. search needs)

@@ -2,18 +2,18 @@
 use Prim.Native.Nat.{ℕ}
 use mathlib.Core.List.{List}
 use mathlib.Core.Option.{Option, none, some}
-use Rattle.der.specs.Element.{whole}
+use Rattle.der.specs.Element.{encoding}
 use Rattle.der.specs.Keys.{typeOf}
 use Rattle.rights.specs.declared.Excess.{Excess}
 use Rattle.rights.specs.declared.Excess.the-variants.{Carried, Sourced, Listed, Unlisted}
-use Rattle.rights.specs.declared.Judged.{Judged}
-use Rattle.rights.specs.declared.Judged.the-variants as judged
+use Rattle.rights.specs.declared.TypeAnswer.{TypeAnswer}
+use Rattle.rights.specs.declared.TypeAnswer.the-variants as judged
 use Rattle.rights.specs.declared.Picked.{Picked}
 use Rattle.rights.specs.declared.Picked.the-variants as picked
 use Rattle.rights.specs.declared.Lister.{Lister}
 use Rattle.rights.specs.declared.Lister.the-variants.{New, Signer, Nobody}
-use Rattle.rights.specs.declared.Answer.{Answer}
-use Rattle.rights.specs.declared.Answer.the-variants as answer
+use Rattle.rights.specs.declared.RightsAnswer.{RightsAnswer}
+use Rattle.rights.specs.declared.RightsAnswer.the-variants as answer
 use Rattle.rights.specs.Rights.{Key, Content, source, carrier}
 use Rattle.rights.specs.Decision.{oid, integer, noPair, onePair}
 
@@ -22,11 +22,11 @@ module _ (signer new : List ℕ) where
   unfoldable pub excessContent : Key → Excess → Content
   excessContent type Carried = noPair type carrier
   excessContent type Sourced = noPair type source
-  excessContent type (Listed a v) = onePair type (typeOf signer a, whole new v)
+  excessContent type (Listed a v) = onePair type (typeOf signer a, encoding new v)
   excessContent type (Unlisted a n) = onePair type (typeOf signer a, integer n)
 
   -- of one type
-  unfoldable pub judgedContent : Key → Judged → Option Content
+  unfoldable pub judgedContent : Key → TypeAnswer → Option Content
   judgedContent type judged.Within = none
   judgedContent type (judged.Outside x) = some (excessContent type x)
 
@@ -41,6 +41,6 @@ module _ (signer new : List ℕ) where
   listedType (Signer e) = typeOf signer e
   listedType (Nobody n) = oid n
 
-  unfoldable pub contentOf : Answer → Option Content
+  unfoldable pub contentOf : RightsAnswer → Option Content
   contentOf answer.Within = none
   contentOf (answer.Outside lister x) = some (excessContent (listedType lister) x)

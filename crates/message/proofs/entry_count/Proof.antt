@@ -1,4 +1,4 @@
--- `message::count` meets its contract. The loop's invariant: those counted and those left are all. Assumes nothing.
+-- `message::entry_count` meets its contract. The loop's invariant: those counted and those left are all. Assumes nothing.
 use mathlib.Core.Path.{_≡_, ap}
 use Prim.Native.Nat.{_+_, _-_, _≤_}
 use native.Mathlib.Omega.{arith}
@@ -7,8 +7,8 @@ use Rattle.der.specs.Element.{elements}
 use Rattle.der.proofs.Elements.{elements-end}
 use Rattle.der.proofs.Runs.{run-turn, run-on}
 use borrow.Author.Needs.{needs}
-use Rattle.message.proofs.count.Statement.{statement}
-use Rattle.message.proofs.count.Tie as tie
+use Rattle.message.proofs.entry_count.Statement.{statement}
+use Rattle.message.proofs.entry_count.Tie as tie
 
 abbrev Inv-loop : tie.InvT-loop
 Inv-loop s stop at₀ n₀ at n = (n + length (elements s at stop) ≡ length (elements s at₀ stop)) × (n ≤ at)
@@ -34,8 +34,8 @@ returns c =
     let k = ap length (elements-end (a .s .now) (c .before .loop .at) (a .e .stop) (c .loop-test .left)) in
     omega arith
 
-pub count-spec : {M : Type 1} → statement M
-count-spec =
+pub entry-count-spec : {M : Type 1} → statement M
+entry-count-spec =
     tie.close
     (tie.spec
     Inv-loop

@@ -1,4 +1,4 @@
--- `store::find_from` meets its contract. The loop: what is found from here is what is found. Assumes nothing.
+-- `store::find_anchor_from` meets its contract. The loop: what is found from here is what is found. Assumes nothing.
 use borrow.Author.Needs.{needs}
 use Prim.Native.Nat.{ℕ, _≤_, _-_, _+_}
 use native.Mathlib.Omega.{arith}
@@ -7,8 +7,8 @@ use mathlib.Core.Path.{_≡_, sym, ap, _∙_}
 use lib.ListN.{drop}
 use Rattle.store.specs.Parts.{infoIn, isSought, firstFrom, infosFrom}
 use Rattle.store.proofs.Walk.{found-here, found-later, found-nowhere}
-use Rattle.store.proofs.find_from.Statement.{statement}
-use Rattle.store.proofs.find_from.Tie as tie
+use Rattle.store.proofs.find_anchor_from.Statement.{statement}
+use Rattle.store.proofs.find_anchor_from.Tie as tie
 
 abbrev Inv-loop : tie.InvT-loop
 Inv-loop s p n by wanted q₀ i₀ q i =
@@ -51,8 +51,8 @@ returns-2 c =
     let l = c .before .loop in
     sym (found-nowhere (isSought (a .by) (a .wanted .now)) (a .s .now) (l .q) (l .i) (a .n) (c .loop-test .left)) ∙ l .inv .1
 
-pub find-from-spec : {M : Type 1} → statement M
-find-from-spec =
+pub find-anchor-from-spec : {M : Type 1} → statement M
+find-anchor-from-spec =
     tie.close
     (tie.spec
     Inv-loop

@@ -1,11 +1,11 @@
--- `rights::is_weighed` meets its contract. Assumes nothing.
+-- `rights::is_other_attribute` meets its contract. Assumes nothing.
 use borrow.Author.Needs.{needs}
 use Rattle.rights.proofs.Attributes.{content-type, other-type}
-use Rattle.rights.proofs.is_weighed.Statement.{statement}
-use Rattle.rights.proofs.is_weighed.Tie as tie
+use Rattle.rights.proofs.is_other_attribute.Statement.{statement}
+use Rattle.rights.proofs.is_other_attribute.Tie as tie
 
-pub is-weighed-spec : {M : Type 1} → statement M
-is-weighed-spec =
+pub is-other-attribute-spec : {M : Type 1} → statement M
+is-other-attribute-spec =
     tie.close
     (tie.spec
     (λ c κs. search needs)
