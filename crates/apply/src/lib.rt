@@ -64,6 +64,9 @@ pub enum Grown {
     Full,
 }
 
+// The communities' section at its longest: the count, and 16 communities of 32 octets, each after its length.
+const SECTION_ROOM: usize = 529;
+
 // The TrustAnchorInfo at a position, as a part of the image.
 fn info_at(image: &[u8], position: usize) -> &[u8]
     ensures { λ r. ⌜ now r ≡ infoAt (now (image .entry)) position ⌝ }
@@ -546,7 +549,7 @@ fn update_communities(
         r
         (now (work .exit)) ⌝ }
 {
-    let mut names = [0u8; 529];
+    let mut names = [0u8; SECTION_ROOM];
     let kept = after_removals(message, removals, &work[..len], &mut names);
     let Grown::To(n) = add_names(message, additions, &mut names, kept) else {
         return Communities {

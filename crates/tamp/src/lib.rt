@@ -238,7 +238,7 @@ fn community(
         (now (reply .exit))
         (now (next .exit)) ⌝ }
 {
-    let mut work = [0u8; 33717];
+    let mut work = [0u8; octets::IMAGE_ROOM];
     let len = renumber(s, q, i, image, &mut work);
     let done = apply::community_update(s, q, &mut work, len);
     let end = done.len;
@@ -295,7 +295,7 @@ fn update(s: &[u8], q: Request, i: usize, image: &[u8], reply: &mut [u8], next: 
         (now (reply .exit))
         (now (next .exit)) ⌝ }
 {
-    let mut work = [0u8; 33717];
+    let mut work = [0u8; octets::IMAGE_ROOM];
     let len = renumber(s, q, i, image, &mut work);
     let entry_count = message::entry_count(s, message::updates_in(s, q.body, q.msgref));
     if octets::MAX_UPDATES < entry_count {
@@ -309,7 +309,7 @@ fn update(s: &[u8], q: Request, i: usize, image: &[u8], reply: &mut [u8], next: 
             next,
         );
     }
-    let mut codes = [0u8; 16];
+    let mut codes = [0u8; octets::MAX_UPDATES];
     let end = apply::update(s, q, image, i, &mut work, len, &mut codes);
     confirm(s, q, &codes[..entry_count], &work[..end], reply, next)
 }
