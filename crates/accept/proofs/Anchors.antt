@@ -5,6 +5,7 @@ use mathlib.Core.List.{List, [], _∷_, map}
 use mathlib.Core.Path.{_≡_, refl, sym, ap, _∙_}
 use lib.ListN.{length, drop, getD, length-map}
 use lib.Dec.{eqb}
+use borrow.Author.Tests.{ne-eqb}
 use Rattle.octets.specs.Octets.{same, octet}
 use Rattle.octets.proofs.Lists.{by-test}
 use Rattle.rights.specs.Rights.{nothing}
@@ -15,14 +16,15 @@ use Rattle.store.specs.declared.FoundSigner.{FoundSigner}
 use Rattle.store.specs.declared.FoundSigner.the-variants.{At, Unverified, Unknown}
 use Rattle.store.specs.Store.{Anchor, Store, anchors, identifierOf, identifiers}
 use Rattle.store.specs.Records.{recordsOf}
-use Rattle.store.specs.Parts.{anchorCount, firstRecord, numberIn, anchorIn}
+use Rattle.store.specs.contract.Parts.{anchorCount, firstRecord, recordAt, numberIn, anchorIn}
 use Rattle.store.specs.Signer.{signerFrom, signer}
 use Rattle.store.proofs.Walk.{records-of, signer-here, signer-unverified, signer-other}
 use Rattle.store.proofs.Parts.{records-count, record-at-position}
 use Rattle.protocol.specs.Acceptance.{rightsAt, numberAt}
 use Rattle.protocol.proofs.Lists.{getD-made}
-use Rattle.accept.specs.Signer.{recordOf, constraintsAt, rightsOn}
-use Rattle.accept.specs.Judged.{storeIn}
+use Rattle.accept.specs.declared.Signer.{Signer}
+use Rattle.accept.specs.contract.Signer.{signerAt, signerConstraints, signerRights}
+use Rattle.accept.specs.contract.Judged.{storeIn}
 
 -- the signer's position is that of an anchor
 module _ (verdict wanted : List ℕ) (j : ℕ) where
@@ -68,24 +70,31 @@ module _ (image : List ℕ) (i : ℕ) (h : i < length (recordsOf image)) where
   unfolding storeIn
   anchors-are = listed (recordsOf image) (omega arith)
 
-  anchor-at : anchorIn (recordOf image i) ≡ getD (anchors (storeIn image)) i (storeIn image .apex)
+  anchor-at : anchorIn (recordAt image (signerAt image i .place)) ≡ getD (anchors (storeIn image)) i (storeIn image .apex)
+  unfolding signerAt
   anchor-at =
       let n = records-count (anchorCount image) (drop (firstRecord image) image) in
       ap anchorIn (sym (record-at-position image i (omega (arith, n, ap length (records-of image)))))
       ∙ sym (getD-made anchorIn (recordsOf image) i [] (storeIn image .apex) h)
       ∙ ap (λ (l : List Anchor). getD l i (storeIn image .apex)) (sym anchors-are)
 
-  pub number-at : numberIn (recordOf image i) ≡ numberAt (storeIn image) i
+  pub number-at : numberIn (recordAt image (signerAt image i .place)) ≡ numberAt (storeIn image) i
   number-at = ap (λ (a : Anchor). a .number) anchor-at
 
   -- its own rights, by its content constraints
-  own-rights : constraintsRights (constraintsAt image i) ≡ rightsOf (getD (anchors (storeIn image)) i (storeIn image .apex) .info)
+  own-rights : constraintsRights (signerConstraints image (signerAt image i)) ≡ rightsOf (getD (anchors (storeIn image)) i (storeIn image .apex) .info)
+  unfolding signerAt
   own-rights = value-rights _ ∙ ap (λ (a : Anchor). rightsOf (a .info)) anchor-at
 
-pub rights-at : (image : List ℕ) (i : ℕ) → i < length (recordsOf image) → rightsOn image i ≡ rightsAt (storeIn image) i
-unfolding rightsOn
+pub other-rights : (image : List ℕ) (w : Signer) → (w .position ≡ 0 → ⊥) → signerRights image w ≡ constraintsRights (signerConstraints image w)
+unfolding signerRights
+other-rights image w n = rw (ne-eqb _ _ n, signerRights)
+
+pub rights-at : (image : List ℕ) (i : ℕ) → i < length (recordsOf image) → signerRights image (signerAt image i) ≡ rightsAt (storeIn image) i
+unfolding signerRights signerAt
 rights-at image zero h = refl
 rights-at image (suc i) h =
     let n = ap length (anchors-are image (suc i) h) ∙ length-map (recordsOf image) anchorIn in
-    own-rights image (suc i) h
+    other-rights image (signerAt image (suc i)) (λ e. let z : suc i ≡ 0 = e in omega arith)
+    ∙ own-rights image (suc i) h
     ∙ sym (getD-made (λ a. rightsOf (a .info)) (storeIn image .others) i (storeIn image .apex) nothing (omega (arith, n)))

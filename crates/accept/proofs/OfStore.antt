@@ -5,23 +5,21 @@ use mathlib.Core.List.{List}
 use mathlib.Core.Option.{some}
 use mathlib.Core.Path.{_≡_, refl, ap, ap₂, _∙_}
 use lib.ListN.{length, length-map}
-use Rattle.octets.specs.Octets.{Octets}
 use Rattle.der.specs.Element.{contents}
 use Rattle.store.specs.Store.{Store, anchors}
 use Rattle.store.specs.Image.{decode}
 use Rattle.store.specs.Records.{recordsOf}
-use Rattle.store.specs.Parts.{anchorIn}
+use Rattle.store.specs.contract.Parts.{anchorIn}
 use Rattle.store.specs.Signer.{signer}
 use Rattle.store.proofs.Parts.{parts, identifiers-of}
 use Rattle.message.specs.declared.Received.{Received}
 use Rattle.message.specs.declared.Received.the-variants.{Asks, Refused}
 use Rattle.message.specs.Rows.{received}
-use Rattle.message.proofs.Names.{names-written}
 use Rattle.protocol.specs.Acceptance.{bySigner, judgementOf, judgement}
-use Rattle.accept.specs.Judged.{storeIn, judgedOf, judgedIn}
+use Rattle.accept.specs.contract.Judged.{storeIn, judgedOf, judgedIn}
 use Rattle.accept.proofs.Anchors.{anchors-are}
 
-module _ (image : List ℕ) (octets : Octets image) (σ : Store) (d : decode image ≡ some σ) where
+module _ (image : List ℕ) (σ : Store) (d : decode image ≡ some σ) where
   pub store-read : storeIn image ≡ σ
   unfolding storeIn
   store-read =
@@ -30,7 +28,7 @@ module _ (image : List ℕ) (octets : Octets image) (σ : Store) (d : decode ima
       let all : anchors (storeIn image) ≡ anchors σ = anchors-are image 0 h ∙ p .anchors-are in
       let apex : storeIn image .apex ≡ σ .apex = cc in
       let others : storeIn image .others ≡ σ .others = cc in
-      rw (p .hwType, p .serial, apex, others, p .octets octets, names-written (σ .communities))
+      rw (p .hwType, p .serial, apex, others, p .communities)
 
   judged-of : (verdict s : List ℕ) (r : Received) → judgedOf image verdict s r ≡ judgementOf σ verdict s r
   unfolding judgedOf judgementOf

@@ -1,5 +1,5 @@
 -- The rows 10, 16, 38, 23, 11 and 21, one way through them at a time.
-use Prim.Native.Nat.{ℕ, zero, suc, _<_}
+use Prim.Native.Nat.{ℕ, _<_}
 use native.Mathlib.Omega.{arith}
 use mathlib.Core.Bool.{Bool, true, false, not}
 use mathlib.Core.List.{List, map}
@@ -8,11 +8,13 @@ use mathlib.Core.Path.{_≡_, refl, sym, ap, _∙_}
 use lib.ListN.{length, length-map}
 use Rattle.octets.specs.declared.Status.{Status}
 use Rattle.octets.specs.First.{givenIf, refuses, orStatus}
-use Rattle.octets.proofs.First.{row-if}
-use Rattle.octets.specs.Status.{notAuthorized, seqNumFailure}
-use Rattle.der.specs.declared.Element.{Element}
-use Rattle.der.specs.Element.{contents, field}
-use Rattle.rights.specs.Rights.{source, authorises}
+use Rattle.octets.proofs.First.{answers, first-row, row-if}
+use Rattle.octets.specs.Status.{success, unsupportedTargetIdentifier, incorrectTarget, notAuthorized, seqNumFailure}
+use Rattle.der.specs.declared.Fit.{Fit}
+use Rattle.der.specs.Element.{encoding, contents}
+use Rattle.der.specs.Fit.{appliesIf, givenAt}
+use Rattle.der.proofs.Fits.{given-test}
+use Rattle.rights.specs.Rights.{Rights, source, authorises}
 use Rattle.rights.specs.Constraints.{constraintsRights}
 use Rattle.rights.specs.Attributes.{pairs}
 use Rattle.rights.proofs.Within.{apex}
@@ -22,95 +24,93 @@ use Rattle.store.specs.Store.{Store}
 use Rattle.store.specs.declared.Number.{Number}
 use Rattle.store.specs.declared.Number.the-variants.{Absent, Is}
 use Rattle.store.specs.Records.{recordsOf}
-use Rattle.store.specs.Parts.{hwTypeIn, serialIn, communityOctets, identifierIn, numberIn, numberOf}
+use Rattle.store.specs.contract.Parts.{hwTypeIn, serialIn, communitiesOf, recordAt, identifierIn, numberIn, numberOf}
 use Rattle.store.specs.Signer.{signer}
 use Rattle.envelope.specs.declared.Refusal.{Refusal}
 use Rattle.message.specs.declared.Request.{Request}
 use Rattle.message.specs.declared.Received.the-variants.{Asks, Refused}
-use Rattle.message.specs.declared.Target.{Target}
-use Rattle.message.specs.declared.Target.the-variants as target
-use Rattle.message.specs.Fields.{targetIn}
-use Rattle.message.specs.Names.{namesIn}
 use Rattle.message.specs.Rows.{received}
-use Rattle.message.specs.Target.{targetOf, targetStatus}
-use Rattle.message.proofs.Numbers.{readNumber, asked-seqNum}
-use Rattle.protocol.specs.declared.Judgement.the-variants.{Refuses, Accepts}
-use Rattle.protocol.specs.Acceptance.{rightsAt, numberAt, targetFor, isNamed, messageContent, row-11, tooLow, row-21, refuseRequest, judgedAt, bySigner}
-use Rattle.accept.specs.Signer.{recordOf, constraintsAt, rightsOn}
-use Rattle.accept.specs.Judged.{storeIn, judgedOf, judgedIn}
-use Rattle.accept.proofs.Anchors.{signer-below, number-at, rights-at}
-
--- 38 and 23 read the parts of the image
-pub target-for : (image s : List ℕ) (q : Request) {hw serial names : List ℕ} {t : Element}
-    → hw ≡ hwTypeIn image → serial ≡ serialIn image → names ≡ communityOctets image → t ≡ targetIn s (q .msgref)
-    → targetOf hw serial (namesIn names) s t ≡ targetFor (storeIn image) s q
-unfolding targetFor storeIn
-target-for image s q h v n t = rw (h, v, n, t)
+use Rattle.protocol.specs.declared.Judgement.{Judgement}
+use Rattle.protocol.specs.declared.Judgement.the-variants.{Accepts}
+use Rattle.protocol.specs.Target.{names, isUnsupported}
+use Rattle.protocol.specs.Acceptance.{messageContent, row-23, row-11, tooLow, row-21, refuseRequest, judgedAt, bySigner}
+use Rattle.accept.specs.declared.Signer.{Signer}
+use Rattle.accept.specs.declared.Acceptance.the-variants as acceptance
+use Rattle.accept.specs.contract.Signer.{signerAt, signerConstraints, signerRights}
+use Rattle.accept.specs.contract.Judged.{storeIn, judgedOf, judgedIn, located, refusedWith}
+use Rattle.accept.proofs.Anchors.{signer-below, number-at, other-rights, rights-at}
 
 -- 11
-module _ (image s : List ℕ) (q : Request) where
-  pub apex-may : {i : ℕ} → i ≡ 0 → false ≡ row-11 (rightsOn image i) s q
-  unfolding row-11 rightsOn
-  apex-may e = rw (e, rightsOn) (sym (ap not (apex (messageContent s q))))
+module _ (image s : List ℕ) (q : Request) (w : Signer) where
+  pub apex-may : w .position ≡ 0 → appliesIf false ≡ row-11 (signerRights image w) s q
+  unfolding row-11 signerRights
+  apex-may e = rw (e, signerRights) (sym (ap (λ (b : Bool). appliesIf (not b)) (apex (messageContent s q))))
 
-  pub other-may : (i : ℕ) → (i ≡ 0 → ⊥) → {v type : List ℕ} → v ≡ constraintsAt image i → type ≡ contents s (q .msgtype)
-      → not (authorises (constraintsRights v) (record { type = type; role = source; attributes = pairs s (q .attributes) })) ≡ row-11 (rightsOn image i) s q
-  unfolding row-11 rightsOn messageContent
-  other-may zero n e f = absurd (n refl)
-  other-may (suc i) n e f = rw (e, f)
+  pub other-may : (w .position ≡ 0 → ⊥) → {v type : List ℕ} → v ≡ signerConstraints image w → type ≡ contents s (q .msgtype)
+      → appliesIf (not (authorises (constraintsRights v) (record { type = type; role = source; attributes = pairs s (q .attributes) }))) ≡ row-11 (signerRights image w) s q
+  unfolding row-11 messageContent
+  other-may n e f = rw (e, f, other-rights image w n)
 
 -- 21
-module _ (s : List ℕ) (q : Request) {o : Option ℕ} where
-  pub any-number : {n : Number} → n ≡ Absent → numberOf n ≡ o → false ≡ row-21 o s q
+module _ (q : Request) {o : Option ℕ} {n : Number} (f : numberOf n ≡ o) where
+  pub any-number : n ≡ Absent → appliesIf false ≡ row-21 o q
+  unfolding row-21 appliesIf
+  any-number e = rw (← f, e)
+
+  pub number-weighed : {stored : ℕ} → n ≡ Is stored → appliesIf (tooLow (q .kind) stored (q .number)) ≡ row-21 o q
   unfolding row-21
-  any-number e f = rw (← f, e)
+  number-weighed e = rw (← f, e)
 
-  pub number-weighed : received s ≡ Asks q → {n : Number} {stored m : ℕ} {e : Element} → n ≡ Is stored → numberOf n ≡ o
-      → e ≡ field 0x02 s (q .msgref) → m ≡ readNumber s e → tooLow (q .kind) stored m ≡ row-21 o s q
-  unfolding row-21
-  number-weighed h e f k m = rw (← f, e, m, k, asked-seqNum s q h)
+-- a row that is a test, after the status of the rows so far
+module _ (q : Request) where
+  abbrev to : Status → Judgement
+  to status = refuseRequest q status 0
 
--- both by the anchor at the signer's position
-module _ (image s : List ℕ) (q : Request) (i : ℕ) (below : i < length (recordsOf image)) {b : Bool} where
-  pub store-11 : b ≡ row-11 (rightsOn image i) s q → b ≡ row-11 (rightsAt (storeIn image) i) s q
-  store-11 e = rw (← rights-at image i below) e
+  row-test : (former status : Status) (b : Bool) {g : Status} {f : Fit} → g ≡ orStatus former b status → appliesIf b ≡ f → refuses status ≡ true → (next : Judgement)
+      → answers to former (givenAt f (refuseRequest q status) next) ≡ answers to g next
+  row-test former status b e p h next =
+      rw (← p) (ap (answers to former) (given-test b (refuseRequest q status) next) ∙ row-if to former status e refl h next)
 
-  pub store-21 : b ≡ row-21 (numberIn (recordOf image i)) s q → b ≡ row-21 (numberAt (storeIn image) i) s q
-  store-21 e = rw (← number-at image i below) e
+-- the rows after 16 on octets read as a store: the code's tests, and its status after each row
+module _ (image s : List ℕ) (q : Request) (i : ℕ) (below : i < length (recordsOf image)) {w : Signer} (at : w ≡ signerAt image i)
+    {t : List ℕ} (slice : t ≡ encoding s (q .target)) {a b : Bool} (c d : Bool) (e : a ≡ isUnsupported t)
+    (f : b ≡ names (hwTypeIn image) (serialIn image) (communitiesOf image) t) (g : appliesIf c ≡ row-11 (signerRights image w) s q)
+    (h : appliesIf d ≡ row-21 (numberIn (recordAt image (w .place))) q) {c1 c2 c3 c4 : Status} (r1 : c1 ≡ orStatus success a unsupportedTargetIdentifier)
+    (r2 : c2 ≡ orStatus c1 (not b) incorrectTarget) (r3 : c3 ≡ orStatus c2 c notAuthorized) (r4 : c4 ≡ orStatus c3 d seqNumFailure) where
+  abbrev σ : Store
+  σ = storeIn image
 
--- 38 and 23
-target-refuses : (t : Target) → not (isNamed t) ≡ refuses (targetStatus t)
-unfolding isNamed targetStatus
-target-refuses target.Named = refl
-target-refuses target.Unsupported = refl
-target-refuses target.Elsewhere = refl
+  is-23 : appliesIf (not b) ≡ row-23 σ s q
+  unfolding row-23 storeIn
+  is-23 = rw (f, slice)
 
--- the rows after 16: the code's tests, and its status after each row
-module _ (σ : Store) (s : List ℕ) (q : Request) (i : ℕ) {t : Target} {a b : Bool} (e : t ≡ targetFor σ s q) (f : a ≡ row-11 (rightsAt σ i) s q)
-    (g : b ≡ row-21 (numberAt σ i) s q) {c c1 c2 : Status} (r : c ≡ targetStatus t) (r1 : c1 ≡ orStatus c a notAuthorized) (r2 : c2 ≡ orStatus c1 b seqNumFailure) where
-  by-status : judgedAt σ s q i ≡ givenIf (refuses c2) (refuseRequest q c2) (Accepts q i)
+  pub weighed : judgedAt σ s q i ≡ givenIf (refuses c4) (refuseRequest q c4 0) (Accepts q i)
   unfolding judgedAt
-  by-status =
-      let named : not (isNamed (targetFor σ s q)) ≡ refuses c = rw (r, e) (target-refuses (targetFor σ s q)) in
-      rw (named, ← e, ← r) (row-if (refuseRequest q) _ _ r1 f refl _) ∙ row-if (refuseRequest q) _ _ r2 g refl _
+  weighed =
+      first-row (to q) _
+      ∙ row-test q _ _ _ r1 (ap appliesIf (rw slice at e)) refl _
+      ∙ row-test q _ _ _ r2 is-23 refl _
+      ∙ row-test q _ _ _ r3 (g ∙ ap (λ (x : Signer). row-11 (signerRights image x) s q) at ∙ ap (λ (x : Rights). row-11 x s q) (rights-at image i below)) refl _
+      ∙ row-test q _ _ _ r4 (h ∙ ap (λ (x : Signer). row-21 (numberIn (recordAt image (x .place))) q) at ∙ ap (λ (x : Option ℕ). row-21 x q) (number-at image i below)) refl _
 
-  pub weigh-refuses : refuses c2 ≡ true → refuseRequest q c2 ≡ judgedAt σ s q i
-  unfolding givenIf
-  weigh-refuses h = sym (by-status ∙ rw h)
+module _ (image : List ℕ) (q : Request) (i : ℕ) (status : Status) {j : Judgement} (e : j ≡ givenIf (refuses status) (refuseRequest q status 0) (Accepts q i)) where
+  pub weigh-refuses : refuses status ≡ true → refusedWith q status ≡ located image j
+  unfolding givenIf located
+  weigh-refuses k = sym (ap (located image) e ∙ rw k)
 
-  pub weigh-accepts : refuses c2 ≡ false → Accepts q i ≡ judgedAt σ s q i
-  unfolding givenIf
-  weigh-accepts h = sym (by-status ∙ rw h)
+  pub weigh-accepts : {w : Signer} → w ≡ signerAt image i → refuses status ≡ false → acceptance.Accepted q w ≡ located image j
+  unfolding givenIf located
+  weigh-accepts at k = ap (acceptance.Accepted q) at ∙ sym (ap (located image) e ∙ rw k)
 
 -- all rows
 module _ (image verdict s : List ℕ) where
-  pub judge-refused : {r : Refusal} → received s ≡ Refused r → Refuses r ≡ judgedIn image verdict s
-  unfolding judgedIn judgedOf
+  pub judge-refused : {r : Refusal} → received s ≡ Refused r → acceptance.Refused r ≡ located image (judgedIn image verdict s)
+  unfolding judgedIn judgedOf located
   judge-refused e = rw e
 
   module _ {q : Request} (e : received s ≡ Asks q) {wanted : List ℕ} (w : wanted ≡ contents s (q .signer)) {f g : FoundSigner}
       (h : f ≡ signer (map identifierIn (recordsOf image)) verdict wanted) (k : f ≡ g) where
-    pub judge-by : bySigner (storeIn image) s q g ≡ judgedIn image verdict s
+    pub judge-by : located image (bySigner (storeIn image) s q g) ≡ located image (judgedIn image verdict s)
     unfolding judgedIn judgedOf
     judge-by = rw (e, ← w, ← h, k)
 

@@ -1,3 +1,1 @@
-pub mod Signer
-pub mod Given
-pub mod Judged
+pub mod contract

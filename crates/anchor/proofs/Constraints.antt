@@ -12,14 +12,15 @@ use Rattle.octets.specs.Lists.{allOf, anyOf}
 use Rattle.octets.specs.Octets.{same, distinct}
 use Rattle.octets.proofs.Lists.{by-test, anyOf-map}
 use Rattle.der.specs.declared.Element.{Element}
-use Rattle.der.specs.Element.{elementAt, elements, root, encoding, contents, field, inside, nextAt}
+use Rattle.der.specs.Element.{elementAt, elements, root, encoding, contents, field, inside}
+use Rattle.der.specs.contract.Reading.{nextAt}
 use Rattle.rights.specs.Rights.{Key, Constraints, Entry, Rights, anyContentType}
 use Rattle.rights.specs.Constraints.{attrConstraint, contentTypeConstraint, constraintsRights}
-use Rattle.anchor.specs.declared.Faults.{Faults}
+use Rattle.anchor.specs.declared.faults.Faults.{Faults}
 use Rattle.der.specs.declared.Compared.the-variants.{Types, Encodings}
 use Rattle.anchor.specs.Judge.{typesIn, repeatedConstraint, anyContentTypeUnlike, overEntries, overAttributes, overValues, overValueOctets}
 use Rattle.der.specs.Keys.{keyOf}
-use Rattle.anchor.specs.Faults.{noFaults, together, faultsIn, attributeFaults, isUnlike, entryFaults, rightsFaults}
+use Rattle.anchor.specs.contract.Faults.{noFaults, together, faultsIn, attributeFaults, isUnlike, entryFaults, rightsFaults}
 use Rattle.der.proofs.Loops.{loop-end, loop-turn}
 
 pub together-assoc : (a b c : Faults) → together (together a b) c ≡ together a (together b c)

@@ -12,7 +12,8 @@ use Rattle.octets.proofs.Parts.{slice-none}
 use Rattle.der.specs.declared.Element.{Element}
 use Rattle.octets.specs.Number.{digits}
 use Rattle.der.specs.Oid.{oid, arc, arcs}
-use Rattle.der.specs.Element.{absent, root, elementAt, elements, contents, inside, field, nextAt}
+use Rattle.der.specs.Element.{absent, root, elementAt, elements, contents, inside, field}
+use Rattle.der.specs.contract.Reading.{nextAt}
 use Rattle.der.proofs.Bools.{on-true, on-false}
 use Rattle.der.proofs.Header.{header-or-not, element-is, element-absent}
 use Rattle.der.proofs.Elements.{bounded, elements-end, with-tag-end}

@@ -20,14 +20,14 @@ use Rattle.der.specs.Fit.{kept}
 use Rattle.der.specs.Check.{spans}
 use Rattle.syntax.specs.Grammar.{Syntax, fit}
 use Rattle.syntax.specs.Asn.{StoredTrustAnchorInfo, CMSContentConstraints}
-use Rattle.syntax.specs.Whole.{conformsIn}
+use Rattle.syntax.specs.contract.Whole.{conformsIn}
 use Rattle.syntax.proofs.Each.{kept-then}
 use Rattle.syntax.proofs.Whole.{spans-bad, spans-long, spans-run}
 use Rattle.rights.specs.Rights.{Rights}
 use Rattle.rights.specs.Constraints.{constraintsRights}
 use Rattle.anchor.specs.declared.AnchorCheck.{AnchorCheck}
 use Rattle.anchor.specs.declared.AnchorCheck.the-variants as judged
-use Rattle.anchor.specs.declared.Faults.{Faults}
+use Rattle.anchor.specs.declared.faults.Faults.{Faults}
 use Rattle.der.specs.declared.Compared.the-variants.{Types}
 use Rattle.anchor.specs.Info.{version, keyIdField, keyIdentifier, certPath, extensions, extnValue, constraintsIn, constraintsExtension}
 use Rattle.anchor.specs.Info.{constraintsValue, rightsOf}
@@ -35,7 +35,7 @@ use Rattle.anchor.specs.Role.{extensionList}
 use Rattle.anchor.specs.Judge.{checkStatus, conforms, repeatedExtension, criticalExtension, badConstraints, repeatedConstraint, anyContentTypeUnlike}
 use Rattle.anchor.specs.Judge.{identifierOutside, overEntries, overAttributes, overValues, overValueOctets, judgeRights, judge, storable}
 use Rattle.der.specs.Keys.{keyOf}
-use Rattle.anchor.specs.Faults.{isOtherCritical, rightsFaults}
+use Rattle.anchor.specs.contract.Faults.{isOtherCritical, rightsFaults}
 use Rattle.anchor.proofs.Constraints.{repeated-fault, unlike-fault, entries-fault, attributes-fault, values-fault, octets-fault}
 use Rattle.anchor.proofs.Rights.{value-rights}
 

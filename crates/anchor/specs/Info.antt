@@ -1,7 +1,8 @@
 -- A TrustAnchorInfo (RFC 5914) as octets by itself: its parts, and the rights that its content constraints give.
 use Prim.Native.Nat.{ℕ}
 use mathlib.Core.Bool.{Bool, true, false}
-use mathlib.Core.List.{List}
+use mathlib.Core.List.{List, _∷_}
+use lib.ListN.{drop}
 use Rattle.octets.specs.Octets.{same}
 use Rattle.der.specs.declared.Element.{Element}
 use Rattle.der.specs.declared.Compared.the-variants.{Types}
@@ -19,12 +20,17 @@ version t = field 0x02 t (root t)
 unfoldable pub publicKey : List ℕ → List ℕ
 publicKey t = encoding t (field 0x30 t (root t))
 
+-- .. "the first read as 30 where a message tags it otherwise": the public key that such octets of a message are
+abbrev pub untagged : List ℕ → List ℕ
+untagged key = 0x30 ∷ drop 1 key
+
 unfoldable pub keyIdField : List ℕ → Element
 keyIdField t = field 0x04 t (root t)
 
 abbrev pub keyIdentifier : List ℕ → List ℕ
 keyIdentifier t = contents t (keyIdField t)
 
+-- certPath, the SEQUENCE after keyId, where it is present
 unfoldable pub certPath : List ℕ → Element
 certPath t = fieldAfter 0x30 t (root t) (keyIdField t)
 

@@ -70,10 +70,11 @@ repeatedConstraint r =
 unfoldable pub anyContentTypeUnlike : Rights → Bool
 anyContentTypeUnlike r = anyOf (λ e. same (e .0) anyContentType && not (e .1 .canSource && eqb (length (e .1 .constraints)) 0)) r
 
--- 17, "over 1,024 octets, identifier outside 1 to 32, a count or value over the limits of Rights"
+-- 17, "identifier outside 1 to 32"
 unfoldable pub identifierOutside : List ℕ → Bool
 identifierOutside k = not (leb 1 (length k) && leb (length k) maxKeyIdentifier)
 
+-- 17, "a count or value over the limits of Rights": "1 to 16 entries", "0 to 4 attribute constraints", "1 to 4 distinct values of at most 64 octets"
 unfoldable pub overEntries : Rights → Bool
 overEntries r = ltb maxEntries (length r)
 
@@ -86,7 +87,7 @@ overValues r = anyOf (λ e. anyOf (λ a. ltb maxValues (length (a .1))) (e .1 .c
 unfoldable pub overValueOctets : Rights → Bool
 overValueOctets r = anyOf (λ e. anyOf (λ a. anyOf (λ v. ltb maxValueOctets (length v)) (a .1)) (e .1 .constraints)) r
 
--- The checks after those of syntax: of a TrustAnchorInfo's rights r, and of its size and that of its key identifier k.
+-- The checks after those of syntax: of a TrustAnchorInfo's rights r, of its size (17, "over 1,024 octets") and of its key identifier k.
 abbrev pub judgeRights : List ℕ → List ℕ → Rights → AnchorCheck
 judgeRights t k r =
     givenIf (repeatedConstraint r) judged.RepeatedConstraint
@@ -98,7 +99,7 @@ judgeRights t k r =
     (givenIf (overValues r) judged.ValueCount
     (givenIf (overValueOctets r) judged.ValueOctets judged.Passes)))))))
 
--- The checks of a TrustAnchorInfo, in the order of 01. (The certificate forms are told by the TrustAnchorChoice around it.)
+-- The checks of a TrustAnchorInfo, in the order of 01, first "a version other than 1" and "certPath present". (The certificate forms are told by the TrustAnchorChoice around it.)
 unfoldable pub judge : List ℕ → AnchorCheck
 judge t =
     givenIf (version t .valid) judged.OtherVersion

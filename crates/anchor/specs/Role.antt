@@ -1,4 +1,4 @@
--- 01, The store image, listing: "role (apex, management if it has constraints, else identity)".
+-- 01, Checked examples, the listing: "role (apex, management if it has constraints, else identity)".
 use Prim.Native.Nat.{ℕ}
 use mathlib.Core.Bool.{true, false}
 use mathlib.Core.List.{List}

@@ -13,15 +13,16 @@ use Rattle.octets.specs.Lists.{anyOf, filter}
 use Rattle.octets.specs.Octets.{octet, member}
 use Rattle.octets.proofs.Lists.{by-test, neither, keep-in, keep-out}
 use Rattle.der.specs.declared.Element.{Element}
-use Rattle.der.specs.Element.{elementAt, contents, nextAt}
+use Rattle.der.specs.Element.{elementAt, contents}
+use Rattle.der.specs.contract.Reading.{nextAt}
 use Rattle.store.specs.Image.{encodeName}
-use Rattle.store.specs.Parts.{namesFrom}
+use Rattle.store.specs.contract.Parts.{namesFrom}
 use Rattle.store.proofs.Standing.{flatMap-append}
 use Rattle.protocol.specs.Community.{afterRemovals}
 use Rattle.protocol.proofs.Lists.{keep-append}
-use Rattle.apply.specs.declared.Grown.{Grown}
-use Rattle.apply.specs.declared.Grown.the-variants.{To, Full}
-use Rattle.apply.specs.Names.{oidsFrom, Section, Joins, Joinable, Grows, notKept, Addable, AddsName, AddableAll, AddsAll}
+use Rattle.apply.specs.declared.community.Grown.{Grown}
+use Rattle.apply.specs.declared.community.Grown.the-variants.{To, Full}
+use Rattle.apply.specs.contract.Names.{oidsFrom, Section, Joins, Joinable, Grows, notKept, Addable, AddsName, AddableAll, AddsAll}
 use Rattle.apply.proofs.Oids.{oids-end, oids-turn}
 use Rattle.apply.proofs.Sections.{section-count}
 

@@ -21,16 +21,17 @@ use Rattle.store.specs.declared.Sought.the-variants.{PublicKey}
 use Rattle.store.specs.Store.{Anchor, Store, anchors}
 use Rattle.store.specs.Image.{wellFormed}
 use Rattle.store.specs.Records.{recordsOf}
-use Rattle.store.specs.Parts.{anchorCount, infoIn, isSought, firstFrom}
+use Rattle.store.specs.contract.Parts.{anchorCount, infoIn, isSought, firstFrom}
 use Rattle.store.proofs.Formats.{rules, from-rules}
 use Rattle.store.proofs.Parts.{isAt, first-any}
-use Rattle.store.specs.Steps.{withOthers, oneMore}
+use Rattle.store.specs.Steps.{withOthers}
+use Rattle.edit.specs.contract.Edits.{oneMore}
 use Rattle.protocol.specs.Update.{Step, unnumbered, unchanged, added, hasKey}
 use Rattle.protocol.proofs.WellFormed.{ValidAnchors, valid-added}
-use Rattle.apply.specs.declared.Applied.the-variants.{Done, Failed}
-use Rattle.apply.specs.Scratch.{Holds, Scratch, HoldsBoth, infoAt}
-use Rattle.apply.specs.Edits.{Growable, Appends}
-use Rattle.apply.specs.Entry.{Applies, Conforming}
+use Rattle.apply.specs.declared.update.Applied.the-variants.{Done, Failed}
+use Rattle.apply.specs.contract.Scratch.{Holds, Scratch, HoldsBoth, infoAt}
+use Rattle.apply.specs.contract.Edits.{Growable, Appends}
+use Rattle.apply.specs.contract.Entry.{Applies, Conforming}
 use Rattle.apply.proofs.Held.{search-is, info-is, counted}
 use Rattle.apply.proofs.Found.{first-at}
 use Rattle.apply.proofs.Stored.{octets-nowhere, octets-once}

@@ -1,4 +1,4 @@
--- The edits of a scratch image (crate edit) make the steps of the rule book (protocol, specs/Update and specs/Effect).
+-- The edits of a scratch image (crate edit) make the steps of the rule book (protocol, specs/contract/Update and specs/contract/Effect).
 use Prim.Native.Nat.{ℕ, zero, suc, _<_}
 use native.Mathlib.Omega.{arith}
 use mathlib.Core.Bool.{true}
@@ -10,7 +10,7 @@ use lib.Seq.{split-at, length-take-le}
 use Rattle.octets.specs.Octets.{placed}
 use Rattle.store.specs.Store.{Anchor, Store, anchors}
 use Rattle.store.specs.Image.{encodeName, encodeNumber, encodeAnchor, encodeSection, encode, wellFormed}
-use Rattle.store.specs.Parts.{placeOf}
+use Rattle.store.specs.contract.Parts.{placeOf}
 use Rattle.store.proofs.Formats.{writeDevice}
 use Rattle.store.proofs.Standing.{upTo, place-is}
 use Rattle.edit.proofs.Stores.{number-placed}

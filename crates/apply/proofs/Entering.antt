@@ -9,24 +9,25 @@ use Rattle.octets.specs.Limits.{maxUpdates}
 use Rattle.octets.specs.Octets.{placed}
 use Rattle.octets.proofs.Placed.{placed-nil, placed-cons}
 use Rattle.der.specs.declared.Element.{Element}
-use Rattle.der.specs.Element.{elementAt, elements, inside, nextAt}
+use Rattle.der.specs.Element.{elementAt, elements}
+use Rattle.der.specs.contract.Reading.{nextAt}
 use Rattle.der.proofs.Elements.{elements-end}
 use Rattle.syntax.proofs.Each.{Every}
 use Rattle.rights.specs.Rights.{Rights}
 use Rattle.anchor.specs.Judge.{conforms}
 use Rattle.store.specs.Store.{Anchor, Store}
-use Rattle.store.specs.Parts.{anchorCount}
+use Rattle.store.specs.contract.Parts.{anchorCount}
 use Rattle.message.specs.declared.Request.{Request}
 use Rattle.message.specs.declared.Entry.{Entry}
 use Rattle.message.specs.declared.Entry.the-variants as entry
-use Rattle.message.specs.Fields.{updatesIn, entryOf, entriesIn}
+use Rattle.message.specs.Fields.{entryOf, entriesIn}
 use Rattle.message.proofs.Entries as asked
 use Rattle.message.proofs.Asked.{asked-adds}
 use Rattle.protocol.specs.Update.{step, steps}
-use Rattle.apply.specs.declared.Entered.{Entered}
-use Rattle.apply.specs.Scratch.{Holds, Scratch, HoldsBoth, ScratchBoth}
-use Rattle.apply.specs.Entry.{Enters, Adding}
-use Rattle.apply.specs.Update.{codesOf, Enterable, EntersAll}
+use Rattle.apply.specs.declared.update.Entered.{Entered}
+use Rattle.apply.specs.contract.Scratch.{Holds, Scratch, HoldsBoth, ScratchBoth}
+use Rattle.apply.specs.contract.Entry.{Enters, Adding}
+use Rattle.apply.specs.contract.Update.{codesOf, Enterable, EntersAll}
 use Rattle.apply.proofs.Held.{counted}
 use Rattle.der.proofs.Runs.{run-turn, run-on}
 
@@ -134,7 +135,7 @@ module _ (s : List ℕ) (rights : Rights) (stop : ℕ) (d₀ : List ℕ) (len : 
         pub entering-less : stop - next < stop - at
         entering-less = omega (arith, run-on s at stop q more j)
 
-    pub entering-end : (q : Request) → entriesIn s (q .body) (q .msgref) ≡ entriesFrom s start stop → stop ≤ at
+    pub entering-end : (q : Request) → entriesIn s (q .updates) ≡ entriesFrom s start stop → stop ≤ at
         → EntersAll s rights q d₀ len codes₀ (record { len = end; old = k }) d codes
     unfolding steps
     entering-end q t h =
@@ -151,19 +152,17 @@ module _ (s : List ℕ) (rights : Rights) (stop : ℕ) (d₀ : List ℕ) (len : 
 
 -- the loop begins
 pub entering-start : (s : List ℕ) (rights : Rights) (d : List ℕ) (len : ℕ) (codes : List ℕ) (q : Request) → Enterable s q d len codes
-    → {list : Element} → list ≡ updatesIn s (q .body) (q .msgref) → {c : ℕ} → c ≡ anchorCount (take len d)
-    → Entering s rights (list .stop) d len codes (list .start) d codes (list .start) len (c - 1) 0
+    → {c : ℕ} → c ≡ anchorCount (take len d)
+    → let list = q .updates in Entering s rights (list .stop) d len codes (list .start) d codes (list .start) len (c - 1) 0
 unfolding entriesIn
-entering-start s rights d len codes q w {list} e {c} k =
-    let t : entriesIn s (q .body) (q .msgref) ≡ entriesFrom s (list .start) (list .stop) =
-    ap (λ (u : Element). map (entryOf s) (inside s u)) (sym e)
-    in
+entering-start s rights d len codes q w {c} k =
+    let list = q .updates in
     record {
       room = refl;
       size = refl;
-      few = omega (arith, w .few, ap length t, length-map (elements s (list .start) (list .stop)) (entryOf s));
+      few = omega (arith, w .few, length-map (elements s (list .start) (list .stop)) (entryOf s));
       space = w .space;
-      adds = rw t at (asked-adds s q (w .asked) (w .update));
+      adds = asked-adds s q (w .asked) (w .update);
       progress = λ σ h.
           record {
             old = σ .others;
@@ -175,10 +174,9 @@ entering-start s rights d len codes q w {list} e {c} k =
           };
     }
 
-pub entries-of : (s : List ℕ) (q : Request) {list : Element} → list ≡ updatesIn s (q .body) (q .msgref)
-    → entriesIn s (q .body) (q .msgref) ≡ entriesFrom s (list .start) (list .stop)
+pub entries-of : (s : List ℕ) (q : Request) → entriesIn s (q .updates) ≡ entriesFrom s (q .updates .start) (q .updates .stop)
 unfolding entriesIn
-entries-of s q e = ap (λ (u : Element). map (entryOf s) (inside s u)) (sym e)
+entries-of s q = refl
 
 pub entering-count : {s : List ℕ} {d : List ℕ} {len : ℕ} {codes : List ℕ} {q : Request} → Enterable s q d len codes → {c : ℕ} → c ≡ anchorCount (take len d) → 1 ≤ c
 entering-count {s} {d} {len} w k = omega (arith, k, counted (w .scratch .store) d len (w .scratch .holds))

@@ -7,18 +7,17 @@ use Rattle.octets.specs.Status.{unsupportedTrustAnchorFormat, improperTAChange}
 use Rattle.der.specs.declared.Element.{Element}
 use Rattle.der.specs.Element.{encoding}
 use Rattle.rights.specs.Rights.{Rights}
-use Rattle.anchor.specs.declared.AnchorCheck.{AnchorCheck}
 use Rattle.anchor.specs.declared.AnchorCheck.the-variants as judged
 use Rattle.anchor.specs.Judge.{checkStatus as judgedStatus}
 use Rattle.store.specs.Steps.{withOthers}
 use Rattle.message.specs.declared.Entry.{Entry}
 use Rattle.message.specs.declared.Entry.the-variants as entry
-use Rattle.message.specs.Fields.{keyIn}
+use Rattle.anchor.specs.Info.{untagged}
 use Rattle.protocol.specs.Update.{added, removed, step}
-use Rattle.apply.specs.declared.Applied.{Applied}
-use Rattle.apply.specs.declared.Applied.the-variants.{Done, Failed}
-use Rattle.apply.specs.Scratch.{Scratch, ScratchBoth}
-use Rattle.apply.specs.Entry.{appliedStatus, Applies, Enters, Conforming, Adding, untagged}
+use Rattle.apply.specs.declared.update.Applied.{Applied}
+use Rattle.apply.specs.declared.update.Applied.the-variants.{Done, Failed}
+use Rattle.apply.specs.contract.Scratch.{Scratch, ScratchBoth}
+use Rattle.apply.specs.contract.Entry.{appliedStatus, Applies, Enters, Conforming, Adding}
 use Rattle.apply.proofs.Adds.{unmoved}
 
 module _ (s : List ℕ) where
@@ -37,7 +36,7 @@ module _ (s : List ℕ) where
 
     pub step-remove : {e : Element} {t : List ℕ} {r : Applied} {d′ : List ℕ} → x ≡ entry.Remove e → t ≡ encoding s e
         → Applies (λ apex old new. removed rights apex old new (untagged t)) d len k r d′ → Applies (λ apex old new. step s rights apex old new x) d len k r d′
-    unfolding step keyIn
+    unfolding step
     step-remove q w h = rw q (rw w at h)
 
     pub step-change : x ≡ entry.Change → Applies (λ apex old new. step s rights apex old new x) d len k (Failed improperTAChange) d

@@ -8,7 +8,7 @@ use lib.ListN.{length}
 use Rattle.octets.specs.Lists.{anyOf, filter}
 use Rattle.octets.proofs.Lists.{by-test, neither, keep-in, keep-out}
 use Rattle.store.specs.declared.Position.the-variants.{At, Nothing}
-use Rattle.store.specs.Parts.{firstFrom}
+use Rattle.store.specs.contract.Parts.{firstFrom}
 use Rattle.store.proofs.Walk.{first-here, first-later}
 use Rattle.protocol.proofs.Lists.{anyOf-append, keep-append}
 

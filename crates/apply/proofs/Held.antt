@@ -14,19 +14,19 @@ use Rattle.store.specs.declared.Sought.{Sought}
 use Rattle.store.specs.Store.{Anchor, Store, anchors}
 use Rattle.store.specs.Image.{encodeNumber, encodeAnchor, encode, wellFormed}
 use Rattle.store.specs.Records.{recordsOf}
-use Rattle.store.specs.Parts.{anchorPlace, anchorCount, recordEnd, placeOf, infoIn, infoAt, communityPlace, isSought, firstFrom}
-use Rattle.store.specs.Steps.{withOthers, unnumbered, oneMore}
+use Rattle.store.specs.contract.Parts.{anchorPlace, anchorCount, recordEnd, placeOf, infoIn, infoAt, communityPlace, isSought, firstFrom}
+use Rattle.store.specs.Steps.{withOthers, unnumbered}
 use Rattle.store.proofs.Formats.{rules}
 use Rattle.store.proofs.RoundTrip.{decode-encode}
 use Rattle.store.proofs.Parts.{of-anchors, count-of-anchors}
 use Rattle.store.proofs.Sizes.{encode-length}
 use Rattle.store.proofs.Standing.{upTo, anchor-place, image-length, next-place, record-inside, record-end, community-place, info-at}
 use Rattle.store.proofs.Standing as standing
-use Rattle.edit.specs.Edits.{recounted}
+use Rattle.edit.specs.contract.Edits.{recounted, oneMore}
 use Rattle.edit.proofs.Replaced.{take-all-placed}
 use Rattle.edit.proofs.Stores.{append-law, remove-law}
-use Rattle.apply.specs.Scratch.{Holds}
-use Rattle.apply.specs.Edits.{Growable, Appends, CanRemove, RemovesAnchor}
+use Rattle.apply.specs.contract.Scratch.{Holds}
+use Rattle.apply.specs.contract.Edits.{Growable, Appends, CanRemove, RemovesAnchor}
 use Rattle.apply.proofs.Found.{first-map}
 
 module _ (σ : Store) (d : List ℕ) (len : ℕ) (h : Holds σ d len) where

@@ -14,3 +14,4 @@ pub mod Oids
 pub mod Sections
 pub mod Additions
 pub mod TwoLists
+pub mod Signing

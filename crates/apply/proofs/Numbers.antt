@@ -12,7 +12,7 @@ use Rattle.octets.proofs.Lists.{both}
 use Rattle.octets.proofs.Placed.{length-placed}
 use Rattle.store.specs.Store.{Anchor, Store, anchors, identifierOf}
 use Rattle.store.specs.Image.{encodeNumber, encode, wellFormed}
-use Rattle.store.specs.Parts.{anchorCount, recordEnd, recordAt, placeOf, infoIn, identifierIn}
+use Rattle.store.specs.contract.Parts.{anchorCount, recordEnd, recordAt, placeOf, infoIn, identifierIn}
 use Rattle.store.proofs.Formats.{rules}
 use Rattle.store.proofs.Sizes.{length-encodeNumber}
 use Rattle.store.specs.Steps.{withOthers}
@@ -21,8 +21,8 @@ use Rattle.edit.proofs.Replaced.{take-placed}
 use Rattle.protocol.specs.Update.{numbered, withSeqNumber}
 use Rattle.protocol.specs.Effect.{numberSet, withNumber}
 use Rattle.protocol.proofs.WellFormed.{Good, valid-withNumber}
-use Rattle.apply.specs.Scratch.{Holds, HoldsBoth, ScratchBoth}
-use Rattle.apply.specs.Edits.{CanNumber, NumbersAt, Renumbers}
+use Rattle.apply.specs.contract.Scratch.{Holds, HoldsBoth, ScratchBoth}
+use Rattle.apply.specs.contract.Edits.{CanNumber, NumbersAt, Renumbers}
 use Rattle.apply.proofs.Edits.{numberSet-at, set-number-law}
 use Rattle.apply.proofs.Held.{counted, record-end-is, inside-is}
 use Rattle.apply.proofs.Held as held

@@ -2,68 +2,28 @@
 use Prim.Native.Nat.{ℕ, _-_, _≤_, _<_}
 use native.Mathlib.Omega.{arith}
 use mathlib.Core.List.{List, [], _∷_, map}
-use mathlib.Core.Path.{_≡_, refl, sym, ap, ap₂, _∙_}
+use mathlib.Core.Path.{_≡_, refl, ap, ap₂, _∙_}
 use lib.ListN.{length}
 use Rattle.octets.specs.Limits.{maxNumber}
 use Rattle.octets.specs.Octets.{Octets}
-use Rattle.octets.specs.Number.{number}
-use Rattle.octets.proofs.Lists.{by-test}
 use Rattle.der.specs.declared.Element.{Element}
-use Rattle.der.specs.declared.Fit.the-variants.{Fits}
-use Rattle.der.specs.Element.{elementAt, elements, contents, inside, field, nextAt}
+use Rattle.der.specs.Element.{elementAt, elements, contents, field}
+use Rattle.der.specs.contract.Reading.{nextAt}
 use Rattle.der.proofs.Elements.{elements-end}
-use Rattle.syntax.specs.declared.TampType.the-variants.{Update}
-use Rattle.syntax.specs.Grammar.{end, optional, many, tagged, notEmpty}
-use Rattle.syntax.specs.Asn.{TAMPSequenceNumber, TAMPSequenceNumbers}
-use Rattle.syntax.specs.Types.{syntaxOf}
-use Rattle.syntax.proofs.Each.{Every, every-weaken, then-both}
-use Rattle.syntax.proofs.Match.{one-fits, obeys-fits}
-use Rattle.syntax.proofs.Fields.{Place, lacks, onlyField, fieldIn, Found, Placed, placed, chosen, each-found}
+use Rattle.syntax.proofs.Each.{Every}
 use Rattle.store.specs.Store.{Anchor, Store}
 use Rattle.message.specs.declared.Request.{Request}
-use Rattle.message.specs.Fields.{bodyIn, seqNumbersIn}
-use Rattle.message.specs.Rows.{row-36}
-use Rattle.message.proofs.Asked.{Asked, asked, asked-seqNumbers}
-use Rattle.message.proofs.Numbers.{readNumber, pair-whole}
+use Rattle.message.specs.Fields.{seqNumberIn, seqNumbersIn}
+use Rattle.message.proofs.Asked.{asked-seqNumbers}
 use Rattle.protocol.specs.Update.{withSeqNumber, withSeqNumbers}
-use Rattle.apply.specs.Scratch.{HoldsBoth, ScratchBoth}
-use Rattle.apply.specs.Edits.{Renumbers}
-use Rattle.apply.specs.Update.{Numerable}
+use Rattle.apply.specs.contract.Scratch.{HoldsBoth, ScratchBoth}
+use Rattle.apply.specs.contract.Edits.{Renumbers}
+use Rattle.apply.specs.contract.Update.{Numerable}
 use Rattle.der.proofs.Runs.{run-turn, run-on}
-
--- every number of tampSeqNumbers is read whole
-abbrev Whole : List ℕ → Element → Type 0
-Whole s e = readNumber s (field 0x02 s e) ≡ number (contents s (field 0x02 s e))
-
-module _ (s : List ℕ) (content : Element) (h : row-36 Update s content ≡ Fits) where
-  list-placed : let body = bodyIn s content in
-      Placed 0xA2 s (body .start) (body .stop) (body .at) (field 0xA2 s body) (Place.may TAMPSequenceNumbers)
-  unfolding row-36 syntaxOf fieldIn lacks onlyField bodyIn
-  list-placed =
-      let two = then-both _ _ h in
-      let o = one-fits s (content .start) (content .stop) (content .at) refl (optional 0x30 _ end) end (two .1) in
-      let f = chosen s (content .start) (content .stop) (content .at) refl (o .valid) 0x30 _ (o .alone) in
-      placed 0xA2 s _ _ _ _ (f .fits)
-
-  pairs-whole : Every (Whole s) (inside s (field 0xA2 s (bodyIn s content)))
-  pairs-whole =
-      let list = field 0xA2 s (bodyIn s content) in
-      by-test (list .valid)
-      (λ g.
-      let f = list-placed .0 g in
-      let m = obeys-fits s (list .start) (list .stop) (list .at) notEmpty (many (tagged 0x30 TAMPSequenceNumber)) (f .fits) .0 in
-      every-weaken (Found 0x30 TAMPSequenceNumber s (list .start) (list .stop)) (Whole s)
-      (λ e k. pair-whole s (list .start) (list .stop) e k)
-      (inside s list)
-      (each-found 0x30 TAMPSequenceNumber s (list .start) (list .stop) (list .at) m))
-      (λ g. rw (list-placed .1 g, elements-end s 0 0 (omega arith)) tt)
-
-asked-whole : (s : List ℕ) (q : Request) → Asked s q → q .kind ≡ Update → Every (Whole s) (inside s (field 0xA2 s (q .body)))
-asked-whole s q a k = rw (a .body) (pairs-whole s (a .content) (rw k at (a .passed)))
 
 -- a key identifier and a number
 abbrev pairOf : List ℕ → Element → List ℕ × ℕ
-pairOf s e = (contents s (field 0x04 s e), number (contents s (field 0x02 s e)))
+pairOf s e = (contents s (field 0x04 s e), seqNumberIn s (field 0x02 s e))
 
 module _ (s : List ℕ) (stop : ℕ) (d₀ : List ℕ) (len k start : ℕ) where
   abbrev pairsFrom : ℕ → List (List ℕ × ℕ)
@@ -78,7 +38,6 @@ module _ (s : List ℕ) (stop : ℕ) (d₀ : List ℕ) (len k start : ℕ) where
   pub record Pairing (d : List ℕ) (at : ℕ) : Type 0 where
     pub room : length d ≡ length d₀
     pub small : Every (λ p. p .1 ≤ maxNumber) (pairsFrom at)
-    pub encoding : Every (Whole s) (elements s at stop)
     pub left : (σ : Store) (old new : List Anchor) → HoldsBoth σ old new d₀ len k → PairsLeft σ old new d at
 
   module _ {d : List ℕ} {at : ℕ} (w : Pairing d at) where
@@ -88,12 +47,12 @@ module _ (s : List ℕ) (stop : ℕ) (d₀ : List ℕ) (len k start : ℕ) where
         record { room = omega (arith, c .room, w .room); store = c .store; old = c .old; new = p .now; holds = p .holds }
 
     module _ (more : at < stop) {e : Element} (q : e ≡ elementAt s at stop) {f : Element} (y : f ≡ field 0x02 s e) {n : ℕ}
-        (z : n ≡ readNumber s f) where
+        (z : n ≡ seqNumberIn s f) where
       turned : elements s at stop ≡ e ∷ elements s (nextAt e stop) stop
       turned = run-turn s at stop q more refl
 
-      number-is : n ≡ number (contents s (field 0x02 s e))
-      number-is = let a : Every (Whole s) (e ∷ elements s (nextAt e stop) stop) = rw turned at (w .encoding) in z ∙ ap (readNumber s) y ∙ a .0
+      number-is : n ≡ seqNumberIn s (field 0x02 s e)
+      number-is = z ∙ ap (seqNumberIn s) y
 
       pub pairing-small : n ≤ maxNumber
       pairing-small =
@@ -117,11 +76,9 @@ module _ (s : List ℕ) (stop : ℕ) (d₀ : List ℕ) (len k start : ℕ) where
         pairing-on =
             let t = run-turn s at stop q more j in
             let a : Every (λ p. p .1 ≤ maxNumber) (pairOf s e ∷ pairsFrom next) = rw t at (w .small) in
-            let b : Every (Whole s) (e ∷ elements s next stop) = rw t at (w .encoding) in
             record {
               room = one .room ∙ w .room;
               small = a .1;
-              encoding = b .1;
               left = λ σ old new h. left-on σ old new (w .left σ old new h);
             }
 
@@ -140,17 +97,15 @@ module _ (s : List ℕ) (stop : ℕ) (d₀ : List ℕ) (len k start : ℕ) where
               rw (t, ← o) (p .holds);
         }
 
-pub pairs-of : (s : List ℕ) (q : Request) {list : Element} → list ≡ field 0xA2 s (q .body)
-    → seqNumbersIn s (q .body) ≡ map (pairOf s) (elements s (list .start) (list .stop))
+pub pairs-of : (s : List ℕ) (q : Request) → seqNumbersIn s (q .numbers) ≡ map (pairOf s) (elements s (q .numbers .start) (q .numbers .stop))
 unfolding seqNumbersIn
-pairs-of s q e = ap (λ (u : Element). map (pairOf s) (inside s u)) (sym e)
+pairs-of s q = refl
 
-pub pairing-start : (s : List ℕ) (d : List ℕ) (len k : ℕ) (q : Request) → Octets s → Numerable s q d len k → {list : Element} → list ≡ field 0xA2 s (q .body)
-    → Pairing s (list .stop) d len k (list .start) d (list .start)
-pairing-start s d len k q o w {list} e =
+pub pairing-start : (s : List ℕ) (d : List ℕ) (len k : ℕ) (q : Request) → Octets s → Numerable s q d len k
+    → Pairing s (q .numbers .stop) d len k (q .numbers .start) d (q .numbers .start)
+pairing-start s d len k q o w =
     record {
       room = refl;
-      small = rw (pairs-of s q e) at (asked-seqNumbers s q (w .asked) (w .update) o);
-      encoding = rw (← e) at (asked-whole s q (asked s q (w .asked)) (w .update));
+      small = rw (pairs-of s q) at (asked-seqNumbers s q (w .asked) (w .update));
       left = λ σ old new h. record { now = new; holds = h; rest = refl };
     }

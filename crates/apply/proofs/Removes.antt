@@ -19,16 +19,17 @@ use Rattle.store.specs.declared.Position.the-variants.{At, Nothing}
 use Rattle.store.specs.declared.Sought.the-variants.{TaggedPublicKey}
 use Rattle.store.specs.Store.{Anchor, Store, anchors, publicKeyOf}
 use Rattle.store.specs.Records.{recordsOf}
-use Rattle.store.specs.Parts.{infoIn, isSought, firstFrom}
+use Rattle.store.specs.contract.Parts.{infoIn, isSought, firstFrom}
 use Rattle.store.proofs.Parts.{isAt, first-any}
 use Rattle.store.specs.Steps.{withOthers}
 use Rattle.protocol.specs.Update.{Step, hasKey, without, removed}
 use Rattle.protocol.proofs.Lists.{keep-append}
 use Rattle.protocol.proofs.WellFormed.{ValidAnchors, valid-removed}
-use Rattle.apply.specs.declared.Applied.the-variants.{Done, Failed}
-use Rattle.apply.specs.Scratch.{Holds, Scratch, infoAt}
-use Rattle.apply.specs.Edits.{CanRemove, RemovesAnchor}
-use Rattle.apply.specs.Entry.{Applies, untagged}
+use Rattle.apply.specs.declared.update.Applied.the-variants.{Done, Failed}
+use Rattle.apply.specs.contract.Scratch.{Holds, Scratch, infoAt}
+use Rattle.apply.specs.contract.Edits.{CanRemove, RemovesAnchor}
+use Rattle.anchor.specs.Info.{untagged}
+use Rattle.apply.specs.contract.Entry.{Applies}
 use Rattle.apply.proofs.Held.{search-is, info-is}
 use Rattle.apply.proofs.Found.{First, head-found, later-found, any-one, keep-rest, kept-front}
 use Rattle.apply.proofs.Stored.{key-once}

@@ -15,13 +15,13 @@ use Rattle.octets.specs.Octets.{octet, member, placed}
 use Rattle.octets.proofs.Placed.{length-placed}
 use Rattle.octets.proofs.Lists.{keep-in, keep-out, keep-length}
 use Rattle.store.specs.Image.{encodeName, encodeSection}
-use Rattle.store.specs.Parts.{communityCount, communityOctets, nameEnd, nameAt, namesFrom, communitiesOf}
+use Rattle.store.specs.contract.Parts.{communityCount, communityOctets, nameEnd, nameAt, namesFrom, communitiesOf}
 use Rattle.store.proofs.Walk.{names-turn}
 use Rattle.store.proofs.Standing.{flatMap-append}
-use Rattle.edit.specs.Edits.{recounted}
+use Rattle.edit.specs.contract.Edits.{recounted}
 use Rattle.edit.proofs.Replaced.{section-replaced, take-all-placed}
 use Rattle.protocol.proofs.Lists.{keep-append}
-use Rattle.apply.specs.Names.{Section, Joins, Joinable, KeepsName, FewNames}
+use Rattle.apply.specs.contract.Names.{Section, Joins, Joinable, KeepsName, FewNames}
 
 module _ {d : List ℕ} {len : ℕ} {l : List (List ℕ)} (w : Section d len l) where
   pub section-size : length (encodeSection encodeName l) ≡ len

@@ -20,28 +20,28 @@ use Rattle.der.specs.Contents.{oidOk}
 use Rattle.syntax.proofs.Each.{every-all}
 use Rattle.store.specs.Store.{Store, anchors}
 use Rattle.store.specs.Image.{encodeName, encodeSection, encode, wellFormed}
-use Rattle.store.specs.Parts.{communityPlace, communityOctets, communitiesOf}
+use Rattle.store.specs.contract.Parts.{communityPlace, communityOctets, communitiesOf}
 use Rattle.store.proofs.Formats.{communityOk, rules, from-rules}
 use Rattle.store.proofs.RoundTrip.{decode-encode}
 use Rattle.store.proofs.Parts.{parts}
 use Rattle.store.proofs.Sizes.{encode-length, community-size}
 use Rattle.store.proofs.Standing.{image-length}
 use Rattle.store.proofs.Standing as standing
-use Rattle.edit.specs.Edits.{replaced}
+use Rattle.edit.specs.contract.Edits.{replaced}
 use Rattle.edit.proofs.Stores.{communities-replaced}
 use Rattle.message.specs.declared.Request.{Request}
-use Rattle.message.specs.Fields.{updatesIn, removeIn, oidsIn, additionsIn}
+use Rattle.message.specs.Fields.{removeIn, oidsIn, additionsIn}
 use Rattle.message.proofs.Asked.{asked-additions}
 use Rattle.protocol.specs.Community.{afterRemovals, afterAdditions, updated, communityStatus, communitiesAfter}
 use Rattle.protocol.specs.Effect.{withCommunities, communityEffect}
 use Rattle.protocol.proofs.Lists.{anyOf-append}
 use Rattle.protocol.proofs.WellFormed.{ValidCommunities, valid-communities}
-use Rattle.apply.specs.declared.Communities.{Communities}
-use Rattle.apply.specs.declared.Grown.{Grown}
-use Rattle.apply.specs.declared.Grown.the-variants.{To, Full}
-use Rattle.apply.specs.Scratch.{Holds, Scratch}
-use Rattle.apply.specs.Names.{oidsFrom, Section, FewNames, AddableAll, AddsAll}
-use Rattle.apply.specs.Community.{CanUpdate, UpdatesCommunities, CommunityReady, CommunityDone}
+use Rattle.apply.specs.declared.Done.{Done}
+use Rattle.apply.specs.declared.community.Grown.{Grown}
+use Rattle.apply.specs.declared.community.Grown.the-variants.{To, Full}
+use Rattle.apply.specs.contract.Scratch.{Holds, Scratch}
+use Rattle.apply.specs.contract.Names.{oidsFrom, Section, FewNames, AddableAll, AddsAll}
+use Rattle.apply.specs.contract.Community.{CanUpdate, UpdatesCommunities, CommunityReady, CommunityDone}
 use Rattle.apply.proofs.Held as held
 use Rattle.apply.proofs.Sections.{section-count}
 
@@ -233,7 +233,7 @@ module _ (present : Bool) {removals additions : List (List ℕ)} {d : List ℕ} 
 
 -- the message
 
-module _ (s : List ℕ) (q : Request) (d : List ℕ) (len : ℕ) {updates removals additions : Element} (u : updates ≡ updatesIn s (q .body) (q .msgref))
+module _ (s : List ℕ) (q : Request) (d : List ℕ) (len : ℕ) {updates removals additions : Element} (u : updates ≡ q .updates)
     (v : removals ≡ field 0xA1 s updates) (z : additions ≡ field 0xA2 s updates) where
   abbrev gone : List (List ℕ)
   gone = oidsFrom s (removals .stop) (removals .start)
@@ -241,7 +241,7 @@ module _ (s : List ℕ) (q : Request) (d : List ℕ) (len : ℕ) {updates remova
   abbrev come : List (List ℕ)
   come = oidsFrom s (additions .stop) (additions .start)
 
-  pub community-done : {r : Communities} {d′ : List ℕ} → UpdatesCommunities (removals .valid) gone come d len r d′ → CommunityDone s q d len r d′
+  pub community-done : {r : Done} {d′ : List ℕ} → UpdatesCommunities (removals .valid) gone come d len r d′ → CommunityDone s q d len r d′
   unfolding communityEffect removeIn additionsIn oidsIn
   community-done p =
       record {

@@ -13,16 +13,16 @@ use Rattle.message.specs.declared.Request.{Request}
 use Rattle.message.specs.Fields.{entriesIn, seqNumbersIn}
 use Rattle.protocol.specs.Update.{steps, withSeqNumbers}
 use Rattle.protocol.specs.Effect.{updateEffect}
-use Rattle.apply.specs.declared.Marks.{Marks}
-use Rattle.apply.specs.Edits.{Renumbers}
-use Rattle.apply.specs.Update.{Enterable, EntersAll, Numerable, UpdatedAs}
+use Rattle.apply.specs.declared.update.Marks.{Marks}
+use Rattle.apply.specs.contract.Edits.{Renumbers}
+use Rattle.apply.specs.contract.Update.{Enterable, EntersAll, Numerable, UpdatedAs}
 
 module _ {s : List ℕ} {rights : Rights} {q : Request} {d : List ℕ} {len : ℕ} {codes : List ℕ} {m : Marks} {d′ codes′ : List ℕ}
     (w : Enterable s q d len codes) (a : EntersAll s rights q d len codes m d′ codes′) where
   pub update-numerable : Numerable s q d′ (m .len) (m .old)
   update-numerable =
       let σ = w .scratch .store in
-      let done = steps s rights (σ .apex) (σ .others) [] (entriesIn s (q .body) (q .msgref)) in
+      let done = steps s rights (σ .apex) (σ .others) [] (entriesIn s (q .updates)) in
       record {
         asked = w .asked;
         update = w .update;
@@ -36,14 +36,14 @@ module _ {s : List ℕ} {rights : Rights} {q : Request} {d : List ℕ} {len : �
             };
       }
 
-  pub update-done : {d″ : List ℕ} → Renumbers (withSeqNumbers (seqNumbersIn s (q .body))) d′ (m .len) (m .old) d″ → UpdatedAs s rights q d len codes (m .len) d″ codes′
+  pub update-done : {d″ : List ℕ} → Renumbers (withSeqNumbers (seqNumbersIn s (q .numbers))) d′ (m .len) (m .old) d″ → UpdatedAs s rights q d len codes (m .len) d″ codes′
   unfolding updateEffect
   update-done r =
-      let few : ltb maxUpdates (length (entriesIn s (q .body) (q .msgref))) ≡ false = le-ltb _ _ (w .few) in
+      let few : ltb maxUpdates (length (entriesIn s (q .updates))) ≡ false = le-ltb _ _ (w .few) in
       record {
         room = r .room ∙ a .room;
         store = λ σ h.
-            let done = steps s rights (σ .apex) (σ .others) [] (entriesIn s (q .body) (q .msgref)) in
+            let done = steps s rights (σ .apex) (σ .others) [] (entriesIn s (q .updates)) in
             rw (few, updateEffect) (r .does σ (done .old) (done .new) (a .does σ h .after) .holds);
         statuses = λ σ h. a .does σ h .written;
       }

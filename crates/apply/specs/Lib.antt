@@ -1,6 +1,1 @@
-pub mod Scratch
-pub mod Edits
-pub mod Entry
-pub mod Update
-pub mod Names
-pub mod Community
+pub mod contract

@@ -6,12 +6,14 @@ use mathlib.Core.Path.{_≡_, refl, sym, ap, _∙_}
 use native.Mathlib.Omega.{arith}
 use lib.Dec.{ltb}
 use borrow.Author.Tests.{ltb-true, ltb-false, not-true, not-false}
+use Rattle.octets.specs.First.{givenIf}
 use Rattle.octets.proofs.Lists.{by-test}
 use Rattle.der.specs.declared.Element.{Element}
 use Rattle.der.specs.declared.Fit.{Fit}
 use Rattle.der.specs.declared.Fit.the-variants.{Fits, Breaks}
-use Rattle.der.specs.Element.{elementAt, nextAt, elements}
-use Rattle.der.specs.Fit.{andThen, held, eachFrom, each}
+use Rattle.der.specs.Element.{elementAt, elements}
+use Rattle.der.specs.contract.Reading.{nextAt}
+use Rattle.der.specs.Fit.{andThen, held, eachFrom, each, appliesIf, givenAt}
 use Rattle.der.proofs.Elements.{valid-within, elements-end, elements-broken, elements-turn}
 use Rattle.der.proofs.Runs.{next-valid, run-turn}
 
@@ -22,6 +24,24 @@ then-fits g e = rw e
 pub then-breaks : {f : Fit} (g : Fit) {o : ℕ} → f ≡ Breaks o → andThen f g ≡ Breaks o
 unfolding andThen
 then-breaks g e = rw e
+
+-- the rows of 01's table: one that is a test, and one that is past
+module _ {A : Type 0} where
+  pub given-test : (b : Bool) (f : ℕ → A) (next : A) → givenAt (appliesIf b) f next ≡ givenIf b (f 0) next
+  unfolding givenAt appliesIf givenIf
+  given-test true f next = refl
+  given-test false f next = refl
+
+  -- an answer that is none of a row's: the row does not apply, and what comes next gives it
+  pub past-row : {x : A} (f : Fit) (answer : ℕ → A) (next : A) → ((o : ℕ) → answer o ≡ x → ⊥) → givenAt f answer next ≡ x → (f ≡ Fits) × (next ≡ x)
+  unfolding givenAt
+  past-row Fits answer next n e = (refl, e)
+  past-row (Breaks o) answer next n e = absurd (n o e)
+
+pub applies-not : (b : Bool) → appliesIf b ≡ Fits → b ≡ false
+unfolding appliesIf
+applies-not true h = absurd (let z : _≡_ {A = ℕ} 0 1 = cc in omega arith)
+applies-not false h = refl
 
 pub held-fits : (at : ℕ) {b : Bool} → b ≡ true → held at b ≡ Fits
 unfolding held

@@ -14,8 +14,9 @@ use Rattle.octets.specs.Number.{numberFrom}
 use Rattle.octets.proofs.Lists.{by-test, both}
 use Rattle.octets.proofs.Parts.{slice-none}
 use Rattle.octets.proofs.Number.{number-grows}
-use Rattle.der.specs.declared.Length.the-variants.{Of, Beyond}
-use Rattle.der.specs.Element.{absent, lengthOctetsAfter, lengthAt, lengthShortest, contentsAt, lengthIn, headed, elementAt}
+use Rattle.der.specs.declared.read.Length.the-variants.{Of, Beyond}
+use Rattle.der.specs.Element.{absent, lengthOctetsAfter, lengthAt, lengthShortest, contentsAt, headed, elementAt}
+use Rattle.der.specs.contract.Reading.{lengthIn}
 use Rattle.der.proofs.Bools.{and-false}
 
 pub record Header (s : List ℕ) (at stop : ℕ) : Type 0 where

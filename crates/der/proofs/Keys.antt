@@ -10,7 +10,8 @@ use Rattle.der.specs.declared.Element.{Element}
 use Rattle.der.specs.declared.Compared.{Compared}
 use Rattle.der.specs.declared.Found.{Found}
 use Rattle.der.specs.declared.Found.the-variants.{At, Nowhere}
-use Rattle.der.specs.Element.{elementAt, nextAt, elements}
+use Rattle.der.specs.Element.{elementAt, elements}
+use Rattle.der.specs.contract.Reading.{nextAt}
 use Rattle.der.specs.Keys.{keyOf, firstWith}
 use Rattle.der.proofs.Loops.{loop-end, loop-turn}
 

@@ -13,7 +13,8 @@ use Rattle.octets.specs.Octets.{octet, same}
 use Rattle.octets.proofs.Lists.{by-test}
 use Rattle.octets.proofs.Compare.{same-lengths}
 use Rattle.der.proofs.Bools.{and-true}
-use Rattle.der.specs.Contents.{integerOk, booleanOk, arcsOk, arcBegins, oidOk, contentsOk}
+use Rattle.der.specs.Contents.{integerOk, booleanOk, arcsOk, oidOk, contentsOk}
+use Rattle.der.specs.contract.Reading.{arcBegins}
 
 -- INTEGER
 

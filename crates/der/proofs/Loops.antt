@@ -8,7 +8,8 @@ use lib.Dec.{eqb}
 use borrow.Author.Tests.{not-true, not-false, eq-eqb, ne-eqb}
 use Rattle.octets.specs.Lists.{allOf, anyOf}
 use Rattle.der.specs.declared.Element.{Element}
-use Rattle.der.specs.Element.{absent, elementAt, nextAt, elements, withTag}
+use Rattle.der.specs.Element.{absent, elementAt, elements, withTag}
+use Rattle.der.specs.contract.Reading.{nextAt}
 use Rattle.der.proofs.Bools.{on-true, on-false}
 use Rattle.der.proofs.Elements.{elements-end}
 use Rattle.der.proofs.Runs.{run-turn}

@@ -7,7 +7,8 @@ use lib.ListN.{length}
 use mathlib.Core.Path.{_≡_, sym, ap, _∙_}
 use Rattle.octets.proofs.Lists.{by-test}
 use Rattle.der.specs.declared.Element.{Element}
-use Rattle.der.specs.Element.{lengthAt, contentsAt, elementAt, nextAt, elements}
+use Rattle.der.specs.Element.{lengthAt, contentsAt, elementAt, elements}
+use Rattle.der.specs.contract.Reading.{nextAt}
 use Rattle.der.proofs.Header.{header-or-not, element-is, element-absent}
 use Rattle.der.proofs.Elements.{valid-within, elements-end, elements-broken, elements-turn}
 

@@ -15,8 +15,9 @@ use Rattle.der.specs.Contents.{contentsOk}
 unfoldable pub sortedIn : ℕ → List ℕ → Element → Element → Bool
 sortedIn tag s former e = elim (eqb tag 49) [ true ↦ ordered (encoding s former) (encoding s e) | false ↦ true ]
 
--- An element, and all in it, with d levels left for it ("to depth 16; depth 17 is a decode failure"). A constructed value holds a run of elements that fills it; each member
--- is read whole, then compared with the one before it (02, E3).
+-- An element, and all in it, with d levels left for it ("to depth 16 (the outermost is depth 1); depth 17 is a decode failure"). A constructed value holds a
+-- run of elements that fills it; each member is read whole, then compared with the one before it (02, E3).
+-- "Octet strings are not opened by this check": they are primitive.
 unfoldable pub der : ℕ → List ℕ → Element → Fit
 der zero s e = Breaks (e .at)
 der (suc d) s e =

@@ -1,9 +1,9 @@
 -- 01, DER: what the contents of primitive types must be.
-use Prim.Native.Nat.{ℕ, _-_}
+use Prim.Native.Nat.{ℕ}
 use mathlib.Core.Bool.{Bool, true, false, not, _&&_, _||_}
 use mathlib.Core.List.{List, [], _∷_}
 use lib.Dec.{ltb, leb, eqb}
-use Rattle.octets.specs.Octets.{octet, same}
+use Rattle.octets.specs.Octets.{same}
 
 -- INTEGER and ENUMERATED: not empty and shortest (X.690, 8.3.2: the first nine bits are not all equal)
 unfoldable pub integerOk : List ℕ → Bool
@@ -20,16 +20,12 @@ unfoldable pub arcsOk : Bool → List ℕ → Bool
 arcsOk fresh [] = fresh
 arcsOk fresh (x ∷ s) = not (fresh && eqb x 128) && arcsOk (ltb x 128) s
 
--- an arc begins at the octet i: the first does, and one after the last octet of another
-abbrev pub arcBegins : List ℕ → ℕ → Bool
-arcBegins o i = eqb i 0 || ltb (octet o (i - 1)) 128
-
 -- OID: not empty, each arc shortest
 unfoldable pub oidOk : List ℕ → Bool
 oidOk [] = false
 oidOk (x ∷ s) = arcsOk true (x ∷ s)
 
--- the rule of the universal tags 01, 02, 0A and 06; any other contents are free ("no other rule of DER is asked")
+-- the rule of the universal tags 01, 02, 0A and 06; any other contents are free ("String contents (bits, UTF-8) are not looked into", "no other rule of DER is asked")
 unfoldable pub contentsOk : ℕ → List ℕ → Bool
 contentsOk tag o =
     elim (eqb tag 1) [

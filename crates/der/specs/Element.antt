@@ -8,14 +8,13 @@ use lib.Dec.{leb, ltb, eqb}
 use Rattle.octets.specs.Octets.{octet, slice}
 use Rattle.octets.specs.Number.{number}
 use Rattle.der.specs.declared.Element.{Element}
-use Rattle.der.specs.declared.Length.{Length}
-use Rattle.der.specs.declared.Length.the-variants.{Of, Beyond}
 
 -- no element: what stands at a place where the header breaks a rule, and (at 0) what a search gives that finds nothing
 abbrev pub absent : ℕ → Element
 absent at = record { valid = false; tag = 0; at = at; start = at; stop = at }
 
--- X.690, 8.1.3: the first length octet is the length, or 128 and the number of length octets after it
+-- X.690, 8.1.3: the first length octet is the length, or 128 and the number of length octets after it. The difference is cut off at 0: a first octet below 128
+-- has none after it
 abbrev pub lengthOctetsAfter : ℕ → ℕ
 lengthOctetsAfter first = first - 128
 
@@ -34,11 +33,6 @@ lengthShortest s at = ltb (octet s (at + 1)) 128 || (not (eqb (octet s (at + 2))
 -- where the contents begin
 abbrev pub contentsAt : List ℕ → ℕ → ℕ
 contentsAt s at = at + 2 + lengthOctetsAfter (octet s (at + 1))
-
--- where the contents begin and how many octets they are, unless they pass the window's end
-unfoldable pub lengthIn : List ℕ → ℕ → ℕ → Length
-lengthIn s at stop =
-    elim (leb (contentsAt s at + lengthAt s at) stop) [ true ↦ Of (contentsAt s at) (lengthAt s at) | false ↦ Beyond ]
 
 -- a header stands at `at`, and its element ends in the window: the window is inside the octets, the tag is one octet (01, DER: "Tags are one octet"),
 -- the length is shortest, and nothing passes the window's end
@@ -59,11 +53,8 @@ elementAt s at stop =
       | false ↦ absent at
     ]
 
--- where a run goes on after e: nothing is read after a header that breaks a rule
-unfoldable pub nextAt : Element → ℕ → ℕ
-nextAt e stop = elim (e .valid) [ true ↦ e .stop | false ↦ stop ]
-
--- the elements of a run, one after the other from `at` on up to `stop`; one whose header breaks a rule is the last. (n bounds their number.)
+-- the elements of a run, one after the other from `at` on up to `stop`; one whose header breaks a rule is the last. (n bounds their number: an element has two
+-- octets at least, so stop - at is enough; the difference is cut off at 0, where the window holds nothing.)
 unfoldable pub elementsFrom : ℕ → List ℕ → ℕ → ℕ → List Element
 elementsFrom zero s at stop = []
 elementsFrom (suc n) s at stop =

@@ -1,4 +1,6 @@
 -- Keeping a rule, or the first break of it. 02, E3: elements are read front to back; the first break counts.
+-- The place in `Breaks` serves E3 alone: it is the offset of the element that is charged. 01 asks only whether a rule breaks; who reads a definition with 01
+-- alone beside it may pass over every place (`at`, `outer`, `charged`).
 use Prim.Native.Nat.{ℕ}
 use mathlib.Core.Bool.{Bool, true, false}
 use mathlib.Core.List.{List, [], _∷_}
@@ -30,8 +32,14 @@ unfoldable pub each : (Element → Element → Fit) → List Element → Fit
 each judge [] = Fits
 each judge (e ∷ es) = eachFrom judge e (e ∷ es)
 
+-- A row of 01's table of answers is a Fit: it applies where it breaks. This is a row whose condition is a test: it applies where the test is true, and E3
+-- gives it no offset
+unfoldable pub appliesIf : Bool → Fit
+appliesIf true = Breaks 0
+appliesIf false = Fits
+
 module _ {A : Type 0} where
-  -- 01, Answers: "The first that applies is given": the answer for the element that breaks a rule, else what comes next
+  -- 01, Answers: "The first that applies is given": the answer of a row that applies, for the offset that it has; else what comes next
   unfoldable pub givenAt : Fit → (ℕ → A) → A → A
   givenAt Fits answer next = next
   givenAt (Breaks o) answer next = answer o

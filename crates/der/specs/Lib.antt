@@ -5,3 +5,4 @@ pub mod Check
 pub mod Keys
 pub mod Write
 pub mod Oid
+pub mod contract

@@ -1,4 +1,4 @@
--- What a replacement leaves (specs/Edits): in octets whose parts are known, in a section, and in the buffer that the code writes to.
+-- What a replacement leaves (specs/contract/Edits): in octets whose parts are known, in a section, and in the buffer that the code writes to.
 use Prim.Native.Nat.{ℕ, _+_, _-_, _≤_, _<_}
 use native.Mathlib.Omega.{arith}
 use mathlib.Core.List.{List, [], _∷_, _++_, flatMap, append-assoc}
@@ -10,7 +10,7 @@ use Rattle.octets.proofs.Placed.{placed-one, placed-append, length-placed, drop
 use Rattle.store.specs.Image.{encodeSection}
 use Rattle.store.proofs.Walk.{drop-take}
 use Rattle.store.proofs.Standing.{flatMap-append, section-split, section-front}
-use Rattle.edit.specs.Edits.{replaced, recounted}
+use Rattle.edit.specs.contract.Edits.{replaced, recounted}
 
 -- the law of the edit: the part x becomes s
 pub replaced-at : (h x t s : List ℕ) {at n : ℕ} → length h ≡ at → length x ≡ n → replaced (h ++ (x ++ t)) at n s ≡ h ++ (s ++ t)

@@ -10,14 +10,14 @@ use Rattle.octets.specs.Octets.{placed}
 use Rattle.octets.specs.Number.{bigEndian}
 use Rattle.store.specs.Store.{Anchor, Store, anchors}
 use Rattle.store.specs.Image.{encodeName, encodeNumber, encodeAnchor, encodeSection, encode, wellFormed}
-use Rattle.store.specs.Parts.{anchorPlace, anchorCount, recordEnd, placeOf, communityPlace, communityOctets}
-use Rattle.store.specs.Steps.{withOthers, withCommunities, unnumbered, numbered, oneMore}
+use Rattle.store.specs.contract.Parts.{anchorPlace, anchorCount, recordEnd, placeOf, communityPlace, communityOctets}
+use Rattle.store.specs.Steps.{withOthers, withCommunities, unnumbered, numbered}
 use Rattle.store.proofs.Formats.{writeDevice}
 use Rattle.store.proofs.Sizes.{length-encodeNumber, length-encodeAnchor}
 use Rattle.store.proofs.RoundTrip.{decode-encode}
 use Rattle.store.proofs.Parts.{count-of-anchors}
 use Rattle.store.proofs.Standing.{section-split, section-front, upTo, anchor-place, image-parts, record-end, place-is, community-place, communities-are}
-use Rattle.edit.specs.Edits.{replaced, recounted}
+use Rattle.edit.specs.contract.Edits.{replaced, recounted, oneMore}
 use Rattle.edit.proofs.Replaced.{replaced-at, placed-replaced, section-replaced}
 
 -- the anchors m after the apex become others

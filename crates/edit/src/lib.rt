@@ -6,7 +6,7 @@ ghost use Prim.Native.Nat.{_+_, _<_, _≤_};
 ghost use lib.ListN.{length, take, drop};
 ghost use Rattle.octets.specs.Octets.{placed};
 ghost use Rattle.store.specs.Image.{encodeNumber};
-ghost use Rattle.edit.specs.Edits.{replaced, recounted};
+ghost use Rattle.edit.specs.contract.Edits.{replaced, recounted};
 
 // Moves n octets from one place to another.
 fn shift(d: &mut [u8], from: usize, to: usize, n: usize)

@@ -8,7 +8,7 @@ use Rattle.der.specs.declared.Fit.{Fit}
 use Rattle.der.specs.declared.Fit.the-variants.{Fits, Breaks}
 use Rattle.der.specs.declared.Element.{Element}
 use Rattle.der.specs.Element.{elementAt, contents, field, fieldAfter}
-use Rattle.der.specs.Fit.{kept, held}
+use Rattle.der.specs.Fit.{kept, held, appliesIf}
 use Rattle.der.proofs.Bools.{and-false}
 use Rattle.syntax.specs.declared.TampType.{TampType}
 use Rattle.syntax.specs.declared.Recognised.{Recognised}
@@ -17,29 +17,30 @@ use Rattle.syntax.specs.Grammar.{fit}
 use Rattle.syntax.specs.Asn.{ContentInfo}
 use Rattle.syntax.specs.Types.{recognised}
 use Rattle.syntax.specs.declared.Form.the-variants as form
-use Rattle.syntax.specs.Forms.{formSyntax}
+use Rattle.syntax.specs.contract.Forms.{formSyntax}
 use Rattle.envelope.specs.declared.Envelope.the-variants.{Opened}
 use Rattle.envelope.specs.Parts.{contentInfo, contentType, content, signedData, encapContentInfo, certificates, crls, signerInfos, eContentType}
 use Rattle.envelope.specs.Parts.{eContentTag, eContent}
 use Rattle.envelope.specs.Parts.{signerInfo, subjectKeyIdentifier, signedAttrs, unsignedAttrs}
 use Rattle.envelope.specs.Attributes.{attributesFit}
-use Rattle.envelope.specs.Rows.{isTamp, row-29, row-3, row-4, row-9, row-18, row-5, row-6, row-7, row-8}
+use Rattle.envelope.specs.Given.{kindOf}
+use Rattle.envelope.specs.Rows.{isTamp, row-29, row-3, row-4, row-9, row-18, kindIn, row-5, row-6, row-7, row-8}
 
 -- 29: one of the four types, and a ContentInfo
 module _ (s : List ℕ) where
-  pub bare-unknown : recognised (contents s (contentType s)) ≡ Unknown → false ≡ row-29 s
+  pub bare-unknown : recognised (contents s (contentType s)) ≡ Unknown → appliesIf false ≡ row-29 s
   unfolding row-29
   bare-unknown h =
       let f = fit ContentInfo s 0 (length s) 0 in
-      sym (ap (λ (r : Recognised). kept f && isTamp r) h ∙ and-false (kept f))
+      ap appliesIf (sym (ap (λ (r : Recognised). kept f && isTamp r) h ∙ and-false (kept f)))
 
-  pub bare-breaks : {o : ℕ} → fit ContentInfo s 0 (length s) 0 ≡ Breaks o → false ≡ row-29 s
+  pub bare-breaks : {o : ℕ} → fit ContentInfo s 0 (length s) 0 ≡ Breaks o → appliesIf false ≡ row-29 s
   unfolding row-29
-  bare-breaks h = sym (ap (λ (f : Fit). kept f && isTamp (recognised (contents s (contentType s)))) h)
+  bare-breaks h = ap appliesIf (sym (ap (λ (f : Fit). kept f && isTamp (recognised (contents s (contentType s)))) h))
 
-  pub bare-both : {t : TampType} → fit ContentInfo s 0 (length s) 0 ≡ Fits → recognised (contents s (contentType s)) ≡ Tamp t → true ≡ row-29 s
+  pub bare-both : {t : TampType} → fit ContentInfo s 0 (length s) 0 ≡ Fits → recognised (contents s (contentType s)) ≡ Tamp t → appliesIf true ≡ row-29 s
   unfolding row-29
-  bare-both h k = sym (ap (λ (f : Fit). kept f && isTamp (recognised (contents s (contentType s)))) h ∙ ap isTamp k)
+  bare-both h k = ap appliesIf (sym (ap (λ (f : Fit). kept f && isTamp (recognised (contents s (contentType s)))) h ∙ ap isTamp k))
 
 -- the parts of the message, one from the other, and the rows that read them
 module _ (s : List ℕ) where
@@ -96,17 +97,25 @@ module _ (s : List ℕ) where
   unfolding row-4 formSyntax
   row-4-is p q = rw (← p) q
 
-  pub row-9-is : {e : Element} → e ≡ eContentTag s → not (e .valid) ≡ row-9 s
+  pub row-9-is : {e : Element} → e ≡ eContentTag s → appliesIf (not (e .valid)) ≡ row-9 s
   unfolding row-9
   row-9-is p = rw p
 
-  pub row-18-is : {e : Element} {o : List ℕ} {r : Recognised} → e ≡ eContentType s → o ≡ contents s e → r ≡ recognised o → r ≡ row-18 s
-  unfolding row-18
-  row-18-is p q k = rw (← p, ← q) k
+  pub type-is : {e : Element} {o : List ℕ} {r : Recognised} → e ≡ eContentType s → o ≡ contents s e → r ≡ recognised o → r ≡ recognised (contents s (eContentType s))
+  type-is p q k = rw (← p, ← q) k
 
-  pub row-5-is : {e : Element} {b : Bool} → e ≡ signedData s → b ≡ field 0xA0 s e .valid || field 0xA1 s e .valid → b ≡ row-5 s
+  module _ {r : Recognised} (k : r ≡ recognised (contents s (eContentType s))) where
+    pub row-18-is : {b : Bool} → b ≡ not (isTamp r) → appliesIf b ≡ row-18 s
+    unfolding row-18
+    row-18-is q = rw (← k, q)
+
+    pub kind-is : {t : TampType} → t ≡ kindOf r → t ≡ kindIn s
+    unfolding kindIn
+    kind-is q = rw (← k) q
+
+  pub row-5-is : {e : Element} {b : Bool} → e ≡ signedData s → b ≡ field 0xA0 s e .valid || field 0xA1 s e .valid → appliesIf b ≡ row-5 s
   unfolding row-5 certificates crls
-  row-5-is p q = rw (← p) q
+  row-5-is p q = rw (← p) (ap appliesIf q)
 
   pub row-6-is : {e : Element} {f : Fit} → e ≡ signerInfos s → f ≡ fit (formSyntax form.OneSignerInfo) s (e .start) (e .stop) (e .at) → f ≡ row-6 s
   unfolding row-6 formSyntax

@@ -17,16 +17,16 @@ use Rattle.der.proofs.Fits.{then-fits, then-breaks, held-fits, held-breaks}
 use Rattle.der.proofs.Runs.{Reached}
 use Rattle.repeats.specs.declared.Repeat.{Repeat}
 use Rattle.der.specs.Keys.{typeOf, keyOf, keysFrom}
-use Rattle.repeats.specs.Keys.{firstRepeat, isAt}
+use Rattle.repeats.specs.contract.Keys.{firstRepeat, isAt}
 use Rattle.der.specs.declared.Compared.the-variants.{Types}
 use Rattle.repeats.proofs.Repeats.{run-is, run-on}
 use Rattle.der.proofs.Bools.{on-true, on-false}
-use Rattle.syntax.specs.Grammar.{Syntax, free, obeys, tagged, equals, fit}
-use Rattle.syntax.specs.Asn.{Attribute}
+use Rattle.syntax.specs.Grammar.{Syntax, tagged, fit}
+use Rattle.syntax.specs.Asn.{Attribute, contentTypeValue, messageDigestValue, otherValue}
 use Rattle.syntax.specs.Types.{id-contentType, id-messageDigest}
 use Rattle.syntax.specs.declared.AttributeForm.{AttributeForm}
 use Rattle.syntax.specs.declared.AttributeForm.the-variants as attribute
-use Rattle.syntax.specs.Forms.{attributeSyntax}
+use Rattle.syntax.specs.contract.Forms.{attributeSyntax}
 use Rattle.envelope.specs.Attributes.{valueSyntax, attributeFit, repeated, hasType, attributesFit}
 
 -- the two OIDs of RFC 5652 as octets
@@ -47,13 +47,13 @@ messageDigest-octets = refl
 -- what is asked of an Attribute, by its type
 module _ (type : List ℕ) where
   digestSyntax : Syntax
-  digestSyntax = elim (same type id-messageDigest) [ true ↦ tagged 0x04 free | false ↦ free ]
+  digestSyntax = elim (same type id-messageDigest) [ true ↦ messageDigestValue | false ↦ otherValue ]
 
   pub form-content : same type id-contentType ≡ true
       → (t : List ℕ) → attributeSyntax attribute.ContentType t ≡ tagged 0x30 (Attribute (valueSyntax t type))
   unfolding valueSyntax attributeSyntax digestSyntax
   form-content h t =
-      ap (λ (g : Syntax). tagged 0x30 (Attribute g)) (sym (on-true (same type id-contentType) (tagged 0x06 (obeys (equals t) free)) digestSyntax h))
+      ap (λ (g : Syntax). tagged 0x30 (Attribute g)) (sym (on-true (same type id-contentType) (contentTypeValue t) digestSyntax h))
 
   pub form-digest : same type id-contentType ≡ false → same type id-messageDigest ≡ true
       → (t : List ℕ) → attributeSyntax attribute.MessageDigest t ≡ tagged 0x30 (Attribute (valueSyntax t type))
@@ -61,8 +61,8 @@ module _ (type : List ℕ) where
   form-digest h k t =
       ap (λ (g : Syntax). tagged 0x30 (Attribute g))
       (sym
-      (on-false (same type id-contentType) (tagged 0x06 (obeys (equals t) free)) digestSyntax h
-      ∙ on-true (same type id-messageDigest) (tagged 0x04 free) free k))
+      (on-false (same type id-contentType) (contentTypeValue t) digestSyntax h
+      ∙ on-true (same type id-messageDigest) messageDigestValue otherValue k))
 
   pub form-other : same type id-contentType ≡ false → same type id-messageDigest ≡ false
       → (t : List ℕ) → attributeSyntax attribute.Other t ≡ tagged 0x30 (Attribute (valueSyntax t type))
@@ -70,8 +70,8 @@ module _ (type : List ℕ) where
   form-other h k t =
       ap (λ (g : Syntax). tagged 0x30 (Attribute g))
       (sym
-      (on-false (same type id-contentType) (tagged 0x06 (obeys (equals t) free)) digestSyntax h
-      ∙ on-false (same type id-messageDigest) (tagged 0x04 free) free k))
+      (on-false (same type id-contentType) (contentTypeValue t) digestSyntax h
+      ∙ on-false (same type id-messageDigest) messageDigestValue otherValue k))
 
 -- the Attribute by itself
 pub attribute-fit : (form : AttributeForm) (type o s : List ℕ) (e : Element) → attributeSyntax form type ≡ tagged 0x30 (Attribute (valueSyntax type o)) → o ≡ typeOf s e

@@ -1,3 +1,4 @@
 pub mod Chain
 pub mod Attributes
 pub mod Answers
+pub mod Opening

@@ -10,20 +10,19 @@ use Rattle.der.specs.declared.Fit.the-variants.{Breaks}
 use Rattle.der.specs.Element.{encoding, inside}
 use Rattle.der.specs.Keys.{typeOf, keysFrom, keysIn}
 use Rattle.der.specs.Fit.{andThen, held, each}
-use Rattle.syntax.specs.Grammar.{Syntax, free, obeys, tagged, equals, fit}
-use Rattle.syntax.specs.Asn.{Attribute}
+use Rattle.syntax.specs.Grammar.{Syntax, tagged, fit}
+use Rattle.syntax.specs.Asn.{Attribute, contentTypeValue, messageDigestValue, otherValue}
 use Rattle.syntax.specs.Types.{id-contentType, id-messageDigest}
 
--- what may stand as the value of an attribute: content-type is eContentType ("content-type unequal"), message-digest is an OCTET STRING (RFC 5652, 11.2),
--- any other value is free
+-- what may stand as the value of an attribute, by its type; content-type's is eContentType
 unfoldable pub valueSyntax : List ℕ → List ℕ → Syntax
 valueSyntax eContentType type =
     elim (same type id-contentType) [
-      | true ↦ tagged 0x06 (obeys (equals eContentType) free)
-      | false ↦ elim (same type id-messageDigest) [ true ↦ tagged 0x04 free | false ↦ free ]
+      | true ↦ contentTypeValue eContentType
+      | false ↦ elim (same type id-messageDigest) [ true ↦ messageDigestValue | false ↦ otherValue ]
     ]
 
--- "malformed, not one value each": the Attribute by itself
+-- "malformed", "not one value each": the Attribute by itself
 unfoldable pub attributeFit : List ℕ → List ℕ → Element → Fit
 attributeFit eContentType s e = fit (tagged 0x30 (Attribute (valueSyntax eContentType (typeOf s e)))) s (e .at) (e .stop) (e .at)
 

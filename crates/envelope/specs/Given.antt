@@ -15,9 +15,14 @@ use Rattle.envelope.specs.declared.Refusal.{Refusal}
 use Rattle.envelope.specs.declared.Given.{Given}
 use Rattle.envelope.specs.declared.Given.the-variants.{Nothing, First}
 
--- a refusal, with msgType where it has a reply ("Statuses 1, 2, 3 and 4 have no reply"), and without msgRef ("with msgRef from 127 on")
-abbrev pub refusal : Status → ℕ → Element → Refusal
-refusal status offset msgtype = record { status = status; offset = offset; msgtype = msgtype; msgref = absent 0 }
+-- a refusal: its status, what its reply repeats of the message (msgType where it has a reply: "Statuses 1, 2, 3 and 4 have no reply"; msgRef: "with msgRef
+-- from 127 on, without it before"), and 02 E3's offset
+abbrev pub refusalWith : Status → Element → Element → ℕ → Refusal
+refusalWith status msgtype msgref offset = record { status = status; offset = offset; msgtype = msgtype; msgref = msgref }
+
+-- .. without msgRef
+abbrev pub refusal : Status → Element → ℕ → Refusal
+refusal status msgtype offset = refusalWith status msgtype (absent 0) offset
 
 module _ {A : Type 0} where
   -- the answer of the rows so far, else what comes next
@@ -27,18 +32,18 @@ module _ {A : Type 0} where
 
 -- the rows so far, else one more: for the element that breaks its rule
 unfoldable pub orAt : Given → Fit → Status → Element → Given
-orAt given rule status msgtype = givenFirst given First (givenAt rule (λ o. First (refusal status o msgtype)) Nothing)
+orAt given rule status msgtype = givenFirst given First (givenAt rule (λ o. First (refusal status msgtype o)) Nothing)
 
 -- .. or by its test, with msgRef ("with msgRef from 127 on")
 unfoldable pub orRef : Given → Bool → Status → Element → Element → Given
 orRef given applies status msgtype msgref =
-    givenFirst given First (givenIf applies (First (record { status = status; offset = 0; msgtype = msgtype; msgref = msgref })) Nothing)
+    givenFirst given First (givenIf applies (First (refusalWith status msgtype msgref 0)) Nothing)
 
 -- .. without it
 abbrev pub orIf : Given → Bool → Status → Element → Given
 orIf given applies status msgtype = orRef given applies status msgtype (absent 0)
 
--- row 18 hands on which of the four types it is; what stands for the others is refused there
+-- which of the four types it is; what stands for the others is never handed on, as row 18 refuses them
 abbrev pub kindOf : Recognised → TampType
 kindOf (Tamp t) = t
 kindOf Unknown = StatusQuery

@@ -34,7 +34,7 @@ signerInfos s = fieldAfter 0x31 s (signedData s) (encapContentInfo s)
 unfoldable pub eContentType : List ℕ → Element
 eContentType s = field 0x06 s (encapContentInfo s)
 
--- eContent [0] EXPLICIT, and the OCTET STRING in it
+-- eContent [0] EXPLICIT, and the OCTET STRING in it, whose contents are "handed back as parts of the message"
 unfoldable pub eContentTag : List ℕ → Element
 eContentTag s = field 0xA0 s (encapContentInfo s)
 

@@ -5,11 +5,11 @@ ghost use mathlib.Core.List.{List};
 ghost use Prim.Native.Nat.{ℕ};
 ghost use Rattle.octets.specs.Octets.{ordered};
 ghost use Rattle.der.specs.Element.{encoding as encodingOf, contents as contentsOf, inside, field};
-ghost use Rattle.der.specs.Fit.{andThen, held, each};
-ghost use Rattle.repeats.specs.Keys.{isAt};
+ghost use Rattle.der.specs.Fit.{andThen, held, each, appliesIf};
+ghost use Rattle.repeats.specs.contract.Keys.{isAt};
 ghost use Rattle.syntax.specs.Grammar.{tagged, fit};
 ghost use Rattle.syntax.specs.Asn.{Attribute};
-ghost use Rattle.syntax.specs.Forms.{formSyntax, attributeSyntax};
+ghost use Rattle.syntax.specs.contract.Forms.{formSyntax, attributeSyntax};
 ghost use Rattle.syntax.specs.Types.{id-contentType, id-messageDigest};
 ghost use Rattle.envelope.specs.Parts.{contentType};
 ghost use Rattle.envelope.specs.Attributes.{valueSyntax, attributeFit, repeated, hasType, attributesFit};
@@ -116,7 +116,7 @@ fn content_type(s: &[u8]) -> Element
 
 // 29: ContentInfo's type is one of the four TAMP types.
 fn is_bare(s: &[u8]) -> bool
-    ensures { λ r. ⌜ r ≡ row-29 (now (s .entry)) ⌝ }
+    ensures { λ r. ⌜ appliesIf r ≡ row-29 (now (s .entry)) ⌝ }
 {
     if let Recognised::Unknown = syntax::recognise(der::contents(s, content_type(s))) {
         return false;
@@ -154,7 +154,7 @@ fn form_of(o: &[u8]) -> AttributeForm
     AttributeForm::Other
 }
 
-// "malformed, not one value each": the Attribute e by itself, where about is eContentType.
+// "malformed", "not one value each": the Attribute e by itself, where about is eContentType.
 fn attribute_fit(about: &[u8], s: &[u8], e: Element) -> Fit
     ensures { λ r. ⌜ r ≡ attributeFit (now (about .entry)) (now (s .entry)) e ⌝ }
 {

@@ -1,17 +1,17 @@
 -- How long a listing is: never over 8,192 octets (at most 5,015).
-use Prim.Native.Nat.{ℕ, zero, suc, _+_, _*_, _/_, _%_, _≤_}
+use Prim.Native.Nat.{ℕ, zero, suc, _+_, _-_, _*_, _/_, _%_, _≤_}
 use native.Mathlib.Nat.{mul-suc}
 use native.Mathlib.Omega.{arith}
 use mathlib.Core.Bool.{Bool, true, false, not, and-eq-true-iff, true≢false}
 use mathlib.Core.List.{List, [], _∷_, _++_, flatMap}
 use mathlib.Core.Option.{Option, none, some}
 use mathlib.Core.Path.{_≡_, refl, sym, ap, _∙_}
-use lib.ListN.{length, length-append, length-map}
+use lib.ListN.{length, drop, length-append, length-map, length-take}
 use lib.Dec.{leb, eqb}
 use borrow.Author.Tests.{leb-true}
 use Rattle.octets.specs.Limits.{maxKeyIdentifier}
 use Rattle.octets.specs.First.{givenIf}
-use Rattle.octets.specs.Octets.{written}
+use Rattle.octets.specs.Octets.{slice, written}
 use Rattle.octets.specs.Ascii.{ascii, codesFrom}
 use Rattle.octets.specs.Lists.{allOf}
 use Rattle.octets.specs.Number.{digits}
@@ -19,7 +19,10 @@ use Rattle.octets.proofs.Lists.{by-test}
 use Rattle.octets.proofs.Placed.{length-placed}
 use Rattle.syntax.specs.Asn.{StoredTrustAnchorInfo}
 use Rattle.anchor.specs.declared.AnchorCheck.{AnchorCheck}
-use Rattle.anchor.specs.Info.{keyIdentifier, hasConstraints}
+use Rattle.anchor.specs.declared.AnchorRole.{AnchorRole}
+use Rattle.anchor.specs.declared.AnchorRole.the-variants.{Apex, Management, Identity}
+use Rattle.anchor.specs.Info.{keyIdentifier}
+use Rattle.anchor.specs.Role.{roleOf}
 use Rattle.anchor.specs.Judge.{checkStatus, passes, conforms, judge, storable, identifierOutside}
 use Rattle.store.specs.Store.{Anchor, Store, anchors, identifierOf}
 use Rattle.store.specs.Image.{decode, anchorOk, wellFormed}
@@ -27,7 +30,7 @@ use Rattle.store.specs.Listing.{hex, decimal, blank, newline, numberText, roleT
 use Rattle.store.proofs.Formats.{communityOk, rules}
 use Rattle.store.proofs.RoundTrip.{decode-wellFormed}
 use Rattle.store.proofs.Sizes.{name-size, community-size, info-storable, length-flatMap}
-use Rattle.listing.specs.Texts.{hexLine}
+use Rattle.listing.specs.contract.Texts.{hexWithin, hexLine}
 use Rattle.listing.proofs.Texts.{hex-line-length, decimal-line-length, count-length}
 
 -- an answer that is no pass was not given
@@ -61,6 +64,10 @@ unfolding hex
 length-hex [] = refl
 length-hex (x ∷ s) = omega (arith, length-hex s)
 
+-- half as many octets as there is room for have their digits in it
+pub hex-fits : (room : ℕ) (s : List ℕ) → length (hexWithin room s) ≤ room
+hex-fits room s = omega (arith, length-hex (slice s 0 (room / 2)), length-take (room / 2 - 0) (drop 0 s))
+
 length-digits : (k n : ℕ) → length (digits 10 k n) ≤ k
 unfolding digits
 length-digits zero n = omega arith
@@ -81,19 +88,18 @@ unfolding numberText ascii codesFrom
 length-number none = omega arith
 length-number (some n) = length-decimal n
 
-length-role : (i : ℕ) (a : Anchor) → length (roleText i a) ≤ 10
+length-role : (role : AnchorRole) → length (roleText role) ≤ 10
 unfolding roleText ascii codesFrom
-length-role i a =
-    by-test (eqb i 0)
-    (λ e. rw (e, roleText) (omega arith))
-    (λ e. rw (e, roleText) (by-test (hasConstraints (a .info)) (λ h. rw h (omega arith)) (λ h. rw h (omega arith))))
+length-role Apex = omega arith
+length-role Management = omega arith
+length-role Identity = omega arith
 
 length-anchor : (i : ℕ) (a : Anchor) → anchorOk a ≡ true → length (anchorLine i a) ≤ 118
 unfolding anchorLine
 length-anchor i a g =
     let n = numberText (a .number) in
     let k = hex (identifierOf a) in
-    let r = roleText i a in
+    let r = roleText (roleOf i (a .info)) in
     omega (
       arith,
       length-append (decimal i) (blank ∷ (r ++ (blank ∷ (k ++ (blank ∷ (n ++ (newline ∷ []))))))),
@@ -101,7 +107,7 @@ length-anchor i a g =
       length-append k (blank ∷ (n ++ (newline ∷ []))),
       length-append n (newline ∷ []),
       length-decimal i,
-      length-role i a,
+      length-role (roleOf i (a .info)),
       length-hex (identifierOf a),
       storable-identifier (a .info) (info-storable a g),
       length-number (a .number),

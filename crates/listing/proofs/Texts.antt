@@ -1,4 +1,4 @@
--- The texts that are written (specs/Texts): how each goes on at a turn, and that they are those of the rule book (01, Checked examples).
+-- The texts that are written (specs/contract/Texts): how each goes on at a turn, and that they are those of the rule book (01, Checked examples).
 use Prim.Native.Nat.{ℕ, zero, suc, _+_, _-_, _/_, _%_, _≤_, _<_}
 use native.Mathlib.Numerals.{add-one}
 use native.Mathlib.Omega.{arith}
@@ -8,27 +8,25 @@ use mathlib.Core.Option.{Option, none, some}
 use mathlib.Core.Path.{_≡_, refl, sym, ap, _∙_}
 use lib.ListN.{length, getD, drop, length-append, drop-of-length-le}
 use lib.Seq.{drop-cons}
-use lib.Dec.{eqb}
 use borrow.Author.Tests.{eq-eqb, ne-eqb, lt-ltb, le-ltb}
 use Rattle.octets.specs.Ascii.{ascii, codesFrom}
 use Rattle.octets.specs.Number.{digits}
 use Rattle.octets.proofs.Number.{digits-none, digits-turn}
 use Rattle.anchor.specs.declared.AnchorRole.{AnchorRole}
 use Rattle.anchor.specs.declared.AnchorRole.the-variants.{Apex, Management, Identity}
-use Rattle.anchor.specs.Info.{hasConstraints}
 use Rattle.anchor.specs.Role.{roleOf}
-use Rattle.store.specs.Store.{Anchor, Store}
+use Rattle.store.specs.Store.{Store}
 use Rattle.store.specs.Image.{decode}
 use Rattle.store.specs.Records.{recordsFrom}
-use Rattle.store.specs.Parts.{hwTypeIn, serialIn, anchorCount, firstRecord, recordEnd, recordAt, infoIn, identifierIn, numberIn, anchorIn, nameEnd, nameAt}
-use Rattle.store.specs.Parts.{namesFrom}
-use Rattle.store.specs.Parts.{communityCount, communityOctets, communitiesOf}
+use Rattle.store.specs.contract.Parts.{hwTypeIn, serialIn, anchorCount, firstRecord, recordEnd, recordAt, infoIn, identifierIn, numberIn, anchorIn, nameEnd, nameAt}
+use Rattle.store.specs.contract.Parts.{namesFrom}
+use Rattle.store.specs.contract.Parts.{communityCount, communityOctets, communitiesOf}
 use Rattle.store.specs.Listing.{hexDigit, hex, decimal, blank, newline, roleText, anchorLine, anchorLines, countLine, storeText, listingOf, listing}
 use Rattle.store.proofs.Walk.{records-of, records-turn, names-turn}
 use Rattle.store.proofs.Parts.{parts, count-of-anchors, count-of-communities}
-use Rattle.image.specs.Check.{isGiven, isImage}
-use Rattle.listing.specs.Texts.{hexLine, decimalDigits, decimalLine, numberLine, roleField, keyLine, recordLine, recordLines, nameLines}
-use Rattle.listing.specs.Texts.{deviceLine, anchorsText, communitiesText, imageText}
+use Rattle.image.specs.contract.Check.{isGiven, isImage}
+use Rattle.listing.specs.contract.Texts.{hexLine, decimalDigits, decimalLine, numberLine, roleField, keyLine, recordLine, recordLines, nameLines}
+use Rattle.listing.specs.contract.Texts.{deviceLine, anchorsText, communitiesText, imageText}
 
 -- hex
 
@@ -102,21 +100,16 @@ module _ (r : List ℕ) {id : List ℕ} {n : Option ℕ} (p : id ≡ identifierI
   pub key-length : length (keyLine r) ≡ length (hex id) + (1 + length (numberLine n))
   key-length = ap length key-is ∙ length-append (hex id) (blank ∷ numberLine n) ∙ omega arith
 
-role-is : (i : ℕ) (a : Anchor) (rest : List ℕ) → roleText i a ++ (blank ∷ rest) ≡ roleField (roleOf i (a .info)) ++ rest
-unfolding roleText roleOf roleField ascii codesFrom
-role-is i a rest = go (eqb i 0) (hasConstraints (a .info))
-  where
-    go : (first constrained : Bool)
-        → elim first [ true ↦ ascii "apex" | false ↦ elim constrained [ true ↦ ascii "management" | false ↦ ascii "identity" ] ] ++ (blank ∷ rest)
-        ≡ roleField (elim first [ true ↦ Apex | false ↦ elim constrained [ true ↦ Management | false ↦ Identity ] ]) ++ rest
-    go true constrained = refl
-    go false true = refl
-    go false false = refl
+role-is : (role : AnchorRole) (rest : List ℕ) → roleText role ++ (blank ∷ rest) ≡ roleField role ++ rest
+unfolding roleText roleField ascii codesFrom
+role-is Apex rest = refl
+role-is Management rest = refl
+role-is Identity rest = refl
 
 module _ (i : ℕ) (r : List ℕ) {info : List ℕ} {role : AnchorRole} (p : info ≡ infoIn r) (q : role ≡ roleOf i info) where
   pub line-is : recordLine i r ≡ decimal i ++ ((blank ∷ []) ++ (roleField role ++ keyLine r))
   unfolding recordLine anchorLine keyLine numberLine
-  line-is = rw (q, p) (ap (λ (l : List ℕ). decimal i ++ (blank ∷ l)) (role-is i (anchorIn r) (keyLine r)))
+  line-is = rw (q, p) (ap (λ (l : List ℕ). decimal i ++ (blank ∷ l)) (role-is (roleOf i (infoIn r)) (keyLine r)))
 
   pub line-length : length (recordLine i r) ≡ length (decimal i) + (1 + (length (roleField role) + length (keyLine r)))
   line-length = ap length line-is ∙ simp length-append (omega arith)

@@ -1,4 +1,4 @@
-// The listing of a store image (01, Checked examples). Each function but `list` writes its part of the text into a lent buffer from a place on
+// The listing of a store image (01, Checked examples). Each function but the two public ones writes its part of the text into a lent buffer from a place on
 // and gives the place after it.
 use anchor::AnchorRole;
 use store::Number;
@@ -8,9 +8,9 @@ ghost use mathlib.Core.List.{[], _∷_};
 ghost use lib.ListN.{length, drop};
 ghost use Rattle.octets.specs.Octets.{placed, written};
 ghost use Rattle.store.specs.Listing.{hexDigit, hex, decimal, countLine, listing};
-ghost use Rattle.store.specs.Parts.{numberOf};
-ghost use Rattle.listing.specs.Texts.{hexLine, decimalDigits, decimalLine, numberLine, roleField, keyLine, recordLine, recordLines, nameLines};
-ghost use Rattle.listing.specs.Texts.{deviceLine, anchorsText, communitiesText, imageText};
+ghost use Rattle.store.specs.contract.Parts.{numberOf};
+ghost use Rattle.listing.specs.contract.Texts.{hexWithin, hexLine, decimalDigits, decimalLine, numberLine, roleField, keyLine, recordLine, recordLines, nameLines};
+ghost use Rattle.listing.specs.contract.Texts.{deviceLine, anchorsText, communitiesText, imageText};
 
 const BLANK: u8 = 32;
 
@@ -43,7 +43,7 @@ fn hex_digit(n: u8) -> u8
 }
 
 // Octets in hex, two digits each.
-pub fn put_hex(buf: &mut [u8], at: usize, s: &[u8]) -> usize
+fn put_hex(buf: &mut [u8], at: usize, s: &[u8]) -> usize
     requires { ⌜ at + length (hex (now s)) ≤ length (now buf) ⌝ }
     ensures { λ r. ⌜ (r ≡ at + length (hex (now (s .entry)))) × (now (buf .exit) ≡ placed (now (buf .entry)) at (hex (now (s .entry)))) ⌝ }
 {
@@ -235,6 +235,16 @@ fn put_image(buf: &mut [u8], at: usize, image: &[u8]) -> usize
     let q = put_device(buf, at, image);
     let q = put_anchors(buf, q, image);
     put_communities(buf, q, image)
+}
+
+// Octets in hex, as many of them as there is room for: how long the text is, and the text in the lent buffer, of which nothing else changes.
+pub fn hex_text(out: &mut [u8], s: &[u8]) -> usize
+    ensures { λ r.
+        ⌜ (r ≡ length (hexWithin (length (now (out .entry))) (now (s .entry))))
+        × (now (out .exit) ≡ written (now (out .entry)) (hexWithin (length (now (out .entry))) (now (s .entry)))) ⌝ }
+{
+    let n = out.len() / 2;
+    put_hex(out, 0, octets::slice(s, 0, n))
 }
 
 // The listing of any octets: how long the text is, and the text in the lent buffer, of which nothing else changes.

@@ -74,7 +74,7 @@ entry-adding s outer e o h d =
     (λ u. rw (t, u, entryOf) tt))
     (λ t. by-test (eqb (e .tag) 0xA2) (λ u. rw (t, u, entryOf) tt) (λ u. rw (t, u, entryOf) tt))
 
-pub entries-adding : (s : List ℕ) (body : Element) → Body Update s body → Every (Adding s) (entriesIn s body (msgRefIn s body))
+pub entries-adding : (s : List ℕ) (body : Element) → Body Update s body → Every (Adding s) (entriesIn s (updatesIn s body (msgRefIn s body)))
 unfolding entriesIn
 entries-adding s body b =
     let updates = updatesIn s body (msgRefIn s body) in

@@ -1,9 +1,5 @@
 pub mod Parts
 pub mod Entries
 pub mod Asked
-pub mod Blocks
-pub mod Names
 pub mod Fields
 pub mod Rows
-pub mod Aims
-pub mod Numbers

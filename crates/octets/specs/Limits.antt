@@ -49,6 +49,7 @@ maxUpdates = 16
 abbrev pub replyRoom : ℕ
 replyRoom = 10_240
 
+-- ("The largest image is 33,717 octets")
 abbrev pub imageRoom : ℕ
 imageRoom = 33_717
 

@@ -1,4 +1,4 @@
--- Big-endian numbers.
+-- 01, The store image: "lengths and numbers big-endian".
 use Prim.Native.Nat.{ℕ, zero, suc, _+_, _*_, _/_, _%_}
 use mathlib.Core.Bool.{true, false}
 use mathlib.Core.List.{List, [], _∷_, _++_}

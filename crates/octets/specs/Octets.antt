@@ -14,11 +14,11 @@ Octets s = (i : ℕ) → getD s i 0 < 256
 abbrev pub octet : List ℕ → ℕ → ℕ
 octet s i = getD s i 0
 
--- the octets from place a up to place e
+-- the octets from place a up to place e, none where e is not above a (there e - a is 0)
 abbrev pub slice : List ℕ → ℕ → ℕ → List ℕ
 slice s a e = take (e - a) (drop a s)
 
--- two octet strings are equal ("values compare as octets")
+-- two octet strings are equal ("Values compare as octets")
 unfoldable pub same : List ℕ → List ℕ → Bool
 same [] [] = true
 same [] (y ∷ t) = false

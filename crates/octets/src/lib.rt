@@ -1,48 +1,36 @@
-// Octet strings, and the one status type of the project.
+// Octets: strings of them, numbers in them, the limits of 01 on them; and the one status type of the project.
 ghost use mathlib.Core.Path.{_≡_};
-ghost use Prim.Native.Nat.{_+_, _<_, _≤_, _^_, min};
-ghost use lib.ListN.{length, take, drop};
 ghost use Rattle.octets.specs.First.{refuses as isRefusal, orStatus};
-ghost use Rattle.octets.specs.Octets.{same, ordered, slice as sliceOf, placed};
-ghost use Rattle.octets.specs.Number.{number, bigEndian, digits};
 
-// The limits of 01 (specs/Limits), each under one name.
+mod limits;
+mod numbers;
+mod strings;
 
-// The store image: anchors, communities, octets of a name (hwType, serial, a community) and of a TrustAnchorInfo, a sequence number.
-pub const MAX_ANCHORS: usize = 32;
-
-pub const MAX_COMMUNITIES: usize = 16;
-
-pub const MAX_NAME_OCTETS: usize = 32;
-
-pub const MAX_ANCHOR_OCTETS: usize = 1024;
-
-pub const MAX_NUMBER: u64 = 9223372036854775807;
-
-// Octets of a key identifier.
-pub const MAX_KEY_IDENTIFIER: usize = 32;
-
-// DER.
-pub const MAX_DEPTH: usize = 16;
-
-// Rights: entries, attribute constraints of an entry, values of an attribute constraint, octets of a value.
-pub const MAX_ENTRIES: usize = 16;
-
-pub const MAX_ATTRIBUTES: usize = 4;
-
-pub const MAX_VALUES: usize = 4;
-
-pub const MAX_VALUE_OCTETS: usize = 64;
-
-// Entries of an Update.
-pub const MAX_UPDATES: usize = 16;
-
-// Answers: the rooms of 203, the reply of 205, the message of 204.
-pub const REPLY_ROOM: usize = 10240;
-
-pub const IMAGE_ROOM: usize = 33717;
-
-pub const MAX_MESSAGE: usize = 8192;
+pub use limits::IMAGE_ROOM;
+pub use limits::MAX_ANCHOR_OCTETS;
+pub use limits::MAX_ANCHORS;
+pub use limits::MAX_ATTRIBUTES;
+pub use limits::MAX_COMMUNITIES;
+pub use limits::MAX_DEPTH;
+pub use limits::MAX_ENTRIES;
+pub use limits::MAX_KEY_IDENTIFIER;
+pub use limits::MAX_MESSAGE;
+pub use limits::MAX_NAME_OCTETS;
+pub use limits::MAX_NUMBER;
+pub use limits::MAX_UPDATES;
+pub use limits::MAX_VALUE_OCTETS;
+pub use limits::MAX_VALUES;
+pub use limits::REPLY_ROOM;
+pub use numbers::digit_count;
+pub use numbers::get_be;
+pub use numbers::put_be;
+pub use numbers::wide;
+pub use strings::copy_to;
+pub use strings::equal;
+pub use strings::in_order;
+pub use strings::move_down;
+pub use strings::move_up;
+pub use strings::slice;
 
 // A number of 01, "Answers": a TAMP status (RFC 5934, section 5) or a house refusal.
 pub struct Status {
@@ -136,149 +124,4 @@ impl Status {
         }
         self
     }
-}
-
-// Two octet strings are equal. From the last octet to the first: keys and OIDs begin alike and differ in their last octets, so a difference is found at once.
-pub fn equal(a: &[u8], b: &[u8]) -> bool
-    ensures { λ r. ⌜ r ≡ same (now (a .entry)) (now (b .entry)) ⌝ }
-{
-    if a.len() != b.len() {
-        return false;
-    }
-    let mut i = a.len();
-    while 0 < i {
-        i -= 1;
-        if a[i] != b[i] {
-            return false;
-        }
-    }
-    true
-}
-
-// The order of a SET OF (X.690, 11.6): a does not stand after b.
-pub fn in_order(a: &[u8], b: &[u8]) -> bool
-    ensures { λ r. ⌜ r ≡ ordered (now (a .entry)) (now (b .entry)) ⌝ }
-{
-    let mut i = 0;
-    while i < a.len() {
-        if b.len() <= i {
-            return false;
-        }
-        if a[i] < b[i] {
-            return true;
-        }
-        if b[i] < a[i] {
-            return false;
-        }
-        i += 1;
-    }
-    true
-}
-
-// The octets from place a up to place e, as a part of the caller's slice; none where there are none.
-pub fn slice(s: &[u8], a: usize, e: usize) -> &[u8]
-    ensures { λ r. ⌜ now r ≡ sliceOf (now (s .entry)) a e ⌝ }
-{
-    let n = s.len();
-    if e <= n {
-        if a < e {
-            return &s[a..e];
-        }
-        return &s[n..n];
-    }
-    if a < n {
-        return &s[a..n];
-    }
-    &s[n..n]
-}
-
-// Writes src into dst from place at on.
-pub fn copy_to(dst: &mut [u8], at: usize, src: &[u8])
-    requires { ⌜ at + length (now src) ≤ length (now dst) ⌝ }
-    ensures { λ r. ⌜ now (dst .exit) ≡ placed (now (dst .entry)) at (now (src .entry)) ⌝ }
-{
-    let mut i = 0;
-    while i < src.len() {
-        dst[at + i] = src[i];
-        i += 1;
-    }
-}
-
-// Moves n octets of d up, from one place to a later one, the last first.
-pub fn move_up(d: &mut [u8], from: usize, to: usize, n: usize)
-    requires { ⌜ (from ≤ to) × (to + n ≤ length (now d)) ⌝ }
-    ensures { λ r. ⌜ now (d .exit) ≡ placed (now (d .entry)) to (take n (drop from (now (d .entry)))) ⌝ }
-{
-    let mut j = n;
-    while 0 < j {
-        j -= 1;
-        d[to + j] = d[from + j];
-    }
-}
-
-// Moves n octets of d down, from one place to an earlier one, the first first.
-pub fn move_down(d: &mut [u8], from: usize, to: usize, n: usize)
-    requires { ⌜ (to ≤ from) × (from + n ≤ length (now d)) ⌝ }
-    ensures { λ r. ⌜ now (d .exit) ≡ placed (now (d .entry)) to (take n (drop from (now (d .entry)))) ⌝ }
-{
-    let mut i = 0;
-    while i < n {
-        d[to + i] = d[from + i];
-        i += 1;
-    }
-}
-
-// An octet as a number.
-pub fn wide(x: u8) -> usize
-    ensures { λ r. ⌜ r ≡ x ⌝ }
-{
-    x as usize
-}
-
-// The number that the octets from place at on write: `width` of them, as many as there are, and 8 at most.
-pub fn get_be(s: &[u8], at: usize, width: usize) -> u64
-    ensures { λ r. ⌜ (r ≡ number (take (min width 8) (drop at (now (s .entry))))) × (r < 256 ^ width) ⌝ }
-{
-    let mut n: u64 = 0;
-    let mut i = 0;
-    let mut p = at;
-    while i < 8 {
-        if i == width {
-            return n;
-        }
-        if s.len() <= p {
-            return n;
-        }
-        n = n * 256 + (wide(s[p]) as u64);
-        p += 1;
-        i += 1;
-    }
-    n
-}
-
-// Writes the last `width` digits of n to the base 256 into dst from place at on.
-pub fn put_be(dst: &mut [u8], at: usize, width: usize, n: u64)
-    requires { ⌜ at + width ≤ length (now dst) ⌝ }
-    ensures { λ r. ⌜ now (dst .exit) ≡ placed (now (dst .entry)) at (bigEndian width n) ⌝ }
-{
-    let mut rest = n;
-    let mut j = width;
-    while 0 < j {
-        j -= 1;
-        dst[at + j] = (rest % 256) as u8;
-        rest /= 256;
-    }
-}
-
-// How many octets n takes with no zero in front; none for 0.
-pub fn digit_count(n: u64) -> usize
-    ensures { λ r. ⌜ r ≡ length (digits 256 8 n) ⌝ }
-{
-    let mut rest = n;
-    let mut k = 0;
-    while 0 < rest {
-        rest /= 256;
-        k += 1;
-    }
-    k
 }

@@ -3,10 +3,16 @@ use Prim.Native.Nat.{ℕ}
 use mathlib.Core.Bool.{Bool, true, false, true≢false}
 use mathlib.Core.List.{List}
 use mathlib.Core.Option.{Option, none, some}
-use mathlib.Core.Path.{_≡_, refl, _∙_, ap}
+use mathlib.Core.Path.{_≡_, refl, sym, ap, _∙_}
 use Rattle.octets.specs.declared.Status.{Status}
 use Rattle.octets.specs.First.{givenIf}
-use Rattle.store.specs.Store.{Store}
+use Rattle.der.specs.declared.Fit.{Fit}
+use Rattle.der.specs.declared.Fit.the-variants.{Fits}
+use Rattle.der.specs.Fit.{givenAt}
+use Rattle.der.proofs.Fits.{past-row}
+use Rattle.der.specs.Element.{contents}
+use Rattle.store.specs.Store.{Store, identifiers}
+use Rattle.store.specs.Signer.{signer}
 use Rattle.store.specs.Image.{encode, decode}
 use Rattle.envelope.specs.declared.Refusal.{Refusal}
 use Rattle.message.specs.declared.Request.{Request}
@@ -68,23 +74,32 @@ module _ (s image verdict : List ℕ) (replyLent nextLent : ℕ) {status : Statu
 
 -- an accepted message asks what was accepted
 module _ (σ : Store) (s : List ℕ) {q : Request} {i : ℕ} where
-  weighed-asks : (q′ : Request) (j : ℕ) → judgedAt σ s q′ j ≡ Accepts q i → q′ ≡ q
-  unfolding judgedAt
-  weighed-asks q′ j e = let z = row _ _ _ (row _ _ _ (row _ _ _ e)) in cc
-    where
-      row : (b : Bool) (r : Refusal) (j : Judgement) → givenIf b (Refuses r) j ≡ Accepts q i → j ≡ Accepts q i
-      row b r j e = given-next b (Refuses r) j Refuses≢Accepts e
+  -- after a row that refuses, what is accepted is so by the next
+  pub past-judged : (f : Fit) (answer : ℕ → Refusal) (j : Judgement) → givenAt f (λ o. Refuses (answer o)) j ≡ Accepts q i → (f ≡ Fits) × (j ≡ Accepts q i)
+  past-judged f answer j e = past-row f _ j (λ o. Refuses≢Accepts) e
 
-  signer-asks : (q′ : Request) (f : FoundSigner) → bySigner σ s q′ f ≡ Accepts q i → q′ ≡ q
+  -- what is accepted by the anchor at a position is what was asked, by that anchor
+  pub weighed-same : (q′ : Request) (j : ℕ) → judgedAt σ s q′ j ≡ Accepts q i → (q′ ≡ q) × (j ≡ i)
+  unfolding judgedAt
+  weighed-same q′ j e = let z = past-judged _ _ _ (past-judged _ _ _ (past-judged _ _ _ (past-judged _ _ _ e .1) .1) .1) .1 in (cc, cc)
+
+  signer-asks : (q′ : Request) (f : FoundSigner) → bySigner σ s q′ f ≡ Accepts q i → (q′ ≡ q) × (f ≡ found.At i)
   unfolding bySigner
-  signer-asks q′ (found.At j) e = weighed-asks q′ j e
+  signer-asks q′ (found.At j) e = let w = weighed-same q′ j e in (w .0, ap found.At (w .1))
   signer-asks q′ found.Unverified e = absurd (Refuses≢Accepts e)
   signer-asks q′ found.Unknown e = absurd (Refuses≢Accepts e)
 
-  pub accepted-asks : (verdict : List ℕ) → judgement σ verdict s ≡ Accepts q i → received s ≡ Asks q
+  pub accepted-signer : (verdict : List ℕ) → judgement σ verdict s ≡ Accepts q i
+      → (received s ≡ Asks q) × (signer (identifiers σ) verdict (contents s (q .signer)) ≡ found.At i)
   unfolding judgement judgementOf
-  accepted-asks verdict e = go (received s) refl e
+  accepted-signer verdict e = go (received s) refl e
     where
-      go : (r : Received) → received s ≡ r → judgementOf σ verdict s r ≡ Accepts q i → received s ≡ Asks q
+      go : (r : Received) → received s ≡ r → judgementOf σ verdict s r ≡ Accepts q i
+          → (received s ≡ Asks q) × (signer (identifiers σ) verdict (contents s (q .signer)) ≡ found.At i)
       go (Refused r) t a = absurd (Refuses≢Accepts a)
-      go (Asks q′) t a = t ∙ ap Asks (signer-asks q′ _ a)
+      go (Asks q′) t a =
+          let w = signer-asks q′ _ a in
+          (t ∙ ap Asks (w .0), ap (λ (x : Request). signer (identifiers σ) verdict (contents s (x .signer))) (sym (w .0)) ∙ w .1)
+
+  pub accepted-asks : (verdict : List ℕ) → judgement σ verdict s ≡ Accepts q i → received s ≡ Asks q
+  accepted-asks verdict e = accepted-signer verdict e .0

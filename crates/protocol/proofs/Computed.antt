@@ -15,7 +15,7 @@ unfolding
     Rattle.der.specs.Contents.booleanOk Rattle.der.specs.Contents.arcsOk Rattle.der.specs.Contents.oidOk Rattle.der.specs.Contents.contentsOk
     Rattle.der.specs.Element.lengthAt Rattle.der.specs.Element.lengthShortest Rattle.der.specs.Element.headed Rattle.der.specs.Element.elementAt
     Rattle.der.specs.Element.elementsFrom Rattle.der.specs.Element.elements Rattle.der.specs.Element.withTag Rattle.der.specs.Keys.keyOf Rattle.der.specs.Keys.firstWith Rattle.der.specs.Fit.andThen
-    Rattle.der.specs.Fit.held Rattle.der.specs.Fit.eachFrom Rattle.der.specs.Fit.each Rattle.der.specs.Fit.givenAt Rattle.der.specs.Oid.arc
+    Rattle.der.specs.Fit.held Rattle.der.specs.Fit.eachFrom Rattle.der.specs.Fit.each Rattle.der.specs.Fit.appliesIf Rattle.der.specs.Fit.givenAt Rattle.der.specs.Oid.arc
     Rattle.der.specs.Oid.arcs Rattle.der.specs.Oid.oid Rattle.der.specs.Write.lengthOctets Rattle.der.specs.Write.element
 computed-der = tt
 
@@ -49,7 +49,7 @@ unfolding
     Rattle.anchor.specs.Judge.badConstraints Rattle.anchor.specs.Judge.repeatedConstraint Rattle.anchor.specs.Judge.anyContentTypeUnlike
     Rattle.anchor.specs.Judge.identifierOutside Rattle.anchor.specs.Judge.overEntries Rattle.anchor.specs.Judge.overAttributes
     Rattle.anchor.specs.Judge.overValues Rattle.anchor.specs.Judge.overValueOctets Rattle.anchor.specs.Judge.judge
-    Rattle.anchor.specs.Judge.storable
+    Rattle.anchor.specs.Judge.storable Rattle.anchor.specs.Role.roleOf
 computed-anchor = tt
 
 unfoldable computed-store : Unit {0}
@@ -78,8 +78,8 @@ unfolding
     Rattle.envelope.specs.Parts.eContent Rattle.envelope.specs.Parts.signerInfo Rattle.envelope.specs.Parts.subjectKeyIdentifier
     Rattle.envelope.specs.Parts.signedAttrs Rattle.envelope.specs.Parts.unsignedAttrs Rattle.envelope.specs.Rows.row-1
     Rattle.envelope.specs.Rows.row-29 Rattle.envelope.specs.Rows.row-2 Rattle.envelope.specs.Rows.row-3 Rattle.envelope.specs.Rows.row-4
-    Rattle.envelope.specs.Rows.row-9 Rattle.envelope.specs.Rows.row-18 Rattle.envelope.specs.Rows.row-5 Rattle.envelope.specs.Rows.row-6
-    Rattle.envelope.specs.Rows.row-7 Rattle.envelope.specs.Rows.row-8 Rattle.envelope.specs.Rows.givenUnknown
+    Rattle.envelope.specs.Rows.row-9 Rattle.envelope.specs.Rows.row-18 Rattle.envelope.specs.Rows.kindIn Rattle.envelope.specs.Rows.row-5 Rattle.envelope.specs.Rows.row-6
+    Rattle.envelope.specs.Rows.row-7 Rattle.envelope.specs.Rows.row-8
     Rattle.envelope.specs.Rows.envelope Rattle.envelope.specs.Rows.wrapper Rattle.envelope.specs.Given.givenFirst
 computed-envelope = tt
 
@@ -87,13 +87,12 @@ unfoldable computed-message : Unit {0}
 unfolding
     Rattle.message.specs.Fields.bodyIn Rattle.message.specs.Fields.msgRefIn Rattle.message.specs.Fields.versionIn
     Rattle.message.specs.Fields.terseIn Rattle.message.specs.Fields.targetIn Rattle.message.specs.Fields.seqNumIn
-    Rattle.message.specs.Fields.updatesIn Rattle.message.specs.Fields.entryOf Rattle.message.specs.Fields.entriesIn
-    Rattle.message.specs.Fields.keyIn Rattle.message.specs.Fields.seqNumbersIn Rattle.message.specs.Fields.removeIn
+    Rattle.message.specs.Fields.seqNumberIn Rattle.message.specs.Fields.tampSeqNumbersIn Rattle.message.specs.Fields.updatesIn Rattle.message.specs.Fields.entryOf Rattle.message.specs.Fields.entriesIn
+    Rattle.message.specs.Fields.seqNumbersIn Rattle.message.specs.Fields.removeIn
     Rattle.message.specs.Fields.oidsIn Rattle.message.specs.Fields.additionsIn Rattle.message.specs.Rows.row-36 Rattle.message.specs.Rows.row-31
     Rattle.message.specs.Rows.hasTerse Rattle.message.specs.Rows.row-127 Rattle.message.specs.Rows.unwrapped
-    Rattle.message.specs.Rows.receivedOf Rattle.message.specs.Rows.received Rattle.message.specs.Target.blockNames
-    Rattle.message.specs.Target.entryNames Rattle.message.specs.Target.moduleNames Rattle.message.specs.Target.namesDevice
-    Rattle.message.specs.Target.targetOf Rattle.message.specs.Target.targetStatus
+    Rattle.message.specs.Rows.receivedOf Rattle.message.specs.Rows.received Rattle.message.specs.Rows.inMessage
+    Rattle.message.specs.Rows.requestIn
 computed-message = tt
 
 unfoldable computed-reply : Unit {0}
@@ -104,7 +103,8 @@ computed-reply = tt
 
 unfoldable computed-tamp : Unit {0}
 unfolding
-    Rattle.protocol.specs.Acceptance.foundStatus Rattle.protocol.specs.Acceptance.targetFor Rattle.protocol.specs.Acceptance.isNamed
+    Rattle.protocol.specs.Acceptance.foundStatus Rattle.protocol.specs.Acceptance.row-23 Rattle.protocol.specs.Target.blockNames
+    Rattle.protocol.specs.Target.entryNames Rattle.protocol.specs.Target.moduleNames Rattle.protocol.specs.Target.names
     Rattle.protocol.specs.Acceptance.messageContent Rattle.protocol.specs.Acceptance.row-11 Rattle.protocol.specs.Acceptance.tooLow
     Rattle.protocol.specs.Acceptance.row-21 Rattle.protocol.specs.Acceptance.judgedAt Rattle.protocol.specs.Acceptance.bySigner
     Rattle.protocol.specs.Acceptance.judgementOf Rattle.protocol.specs.Acceptance.judgement Rattle.protocol.specs.Call.row-202

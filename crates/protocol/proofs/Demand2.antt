@@ -27,7 +27,6 @@ use Rattle.store.specs.Store.{Anchor, Store}
 use Rattle.message.specs.declared.Request.{Request}
 use Rattle.message.specs.declared.Entry.{Entry}
 use Rattle.message.specs.declared.Entry.the-variants as entry
-use Rattle.message.specs.Fields.{seqNumIn}
 use Rattle.protocol.specs.Acceptance.{rightsAt}
 use Rattle.protocol.specs.Update.{Step, added, step, steps}
 use Rattle.protocol.specs.Effect.{withNumber, updateEffect, effectOf, effect}
@@ -99,7 +98,7 @@ effect-confirms : (s : List ℕ) → Octets s → (q : Request) (i : ℕ) (σ : 
     → length (entriesOf s q) ≤ maxUpdates → Confirms s q (rightsAt σ i) (effect s q i σ .reply)
 unfolding effect effectOf
 effect-confirms s o q i σ v k n =
-    let after = withNumber i (seqNumIn s (q .msgref)) σ in
+    let after = withNumber i (q .number) σ in
     subst (λ kind. Confirms s q (rightsAt σ i) (effectOf kind s q (rightsAt σ i) after .reply)) (sym k) (update-confirms s o q (rightsAt σ i) v after n)
 
 pub demand2 : Demand2

@@ -15,8 +15,6 @@ use Rattle.der.specs.Element.{contents}
 use Rattle.der.specs.Fit.{givenAt}
 use Rattle.syntax.specs.declared.TampType.{TampType}
 use Rattle.syntax.specs.declared.TampType.the-variants.{StatusQuery, Update, CommunityUpdate, SeqNumAdjust}
-use Rattle.syntax.specs.declared.Recognised.{Recognised}
-use Rattle.syntax.specs.declared.Recognised.the-variants.{Tamp, Unknown}
 use Rattle.rights.specs.Rights.{Rights}
 use Rattle.store.specs.declared.FoundSigner.{FoundSigner}
 use Rattle.store.specs.declared.FoundSigner.the-variants as found
@@ -26,13 +24,10 @@ use Rattle.store.specs.Image.{decode}
 use Rattle.envelope.specs.declared.Refusal.{Refusal}
 use Rattle.envelope.specs.declared.Envelope.{Envelope}
 use Rattle.envelope.specs.declared.Envelope.the-variants as envelope
-use Rattle.envelope.specs.Rows.{givenUnknown, envelope}
+use Rattle.envelope.specs.Rows.{envelope}
 use Rattle.message.specs.declared.Request.{Request}
 use Rattle.message.specs.declared.Received.{Received}
 use Rattle.message.specs.declared.Received.the-variants.{Asks, Refused}
-use Rattle.message.specs.declared.Target.{Target}
-use Rattle.message.specs.declared.Target.the-variants as target
-use Rattle.message.specs.Target.{targetStatus}
 use Rattle.message.specs.Fields.{entriesIn}
 use Rattle.message.specs.Rows.{unwrapped, receivedOf, received}
 use Rattle.protocol.specs.declared.Judgement.{Judgement}
@@ -64,25 +59,19 @@ unfolding givenAt
 by-givenAt P Fits a n = n
 by-givenAt P (Breaks o) a n = a o
 
-by-givenUnknown : (P : Envelope → Type 0) (r : Recognised) {answer : Envelope} {next : TampType → Envelope} → P answer → ((t : TampType) → P (next t))
-    → P (givenUnknown r answer next)
-unfolding givenUnknown
-by-givenUnknown P (Tamp t) a n = n t
-by-givenUnknown P Unknown a n = a
-
 in-envelope : (s : List ℕ) → InEnvelope (envelope s)
 unfolding envelope
 in-envelope s =
     let P : Envelope → Type 0 = InEnvelope in
     by-givenAt P _ (λ o. omega arith)
-    (by-given P _ (λ _. omega arith) (λ _.
-    by-givenAt P _ (λ o. omega arith)
     (by-givenAt P _ (λ o. omega arith)
     (by-givenAt P _ (λ o. omega arith)
-    (by-given P _ (λ _. omega arith) (λ _.
-    by-givenUnknown P _ (omega arith) (λ kind.
-    by-given P _ (λ _. omega arith) (λ _.
-    by-givenAt P _ (λ o. omega arith)
+    (by-givenAt P _ (λ o. omega arith)
+    (by-givenAt P _ (λ o. omega arith)
+    (by-givenAt P _ (λ o. omega arith)
+    (by-givenAt P _ (λ o. omega arith)
+    (by-givenAt P _ (λ o. omega arith)
+    (by-givenAt P _ (λ o. omega arith)
     (by-givenAt P _ (λ o. omega arith)
     (by-givenAt P _ (λ o. omega arith) tt))))))))))
 
@@ -95,22 +84,17 @@ in-received s = go (envelope s) (in-envelope s)
     go (envelope.Opened w) h =
         let P : Received → Type 0 = InReceived in
         by-givenAt P _ (λ o. omega arith)
-        (by-given P _ (λ _. omega arith) (λ _.
-        by-given P _ (λ _. omega arith) (λ _. tt)))
-
-target-small : (t : Target) → targetStatus t .number < 128
-unfolding targetStatus
-target-small target.Named = omega arith
-target-small target.Unsupported = omega arith
-target-small target.Elsewhere = omega arith
+        (by-givenAt P _ (λ o. omega arith)
+        (by-givenAt P _ (λ o. omega arith) tt))
 
 in-weighed : (σ : Store) (s : List ℕ) (q : Request) (i : ℕ) → InJudgement (judgedAt σ s q i)
 unfolding judgedAt
 in-weighed σ s q i =
     let P : Judgement → Type 0 = InJudgement in
-    by-given P _ (λ _. target-small _) (λ _.
-    by-given P _ (λ _. omega arith) (λ _.
-    by-given P _ (λ _. omega arith) (λ _. tt)))
+    by-givenAt P _ (λ o. omega arith)
+    (by-givenAt P _ (λ o. omega arith)
+    (by-givenAt P _ (λ o. omega arith)
+    (by-givenAt P _ (λ o. omega arith) tt)))
 
 in-judgement : (σ : Store) (verdict s : List ℕ) → InJudgement (judgement σ verdict s)
 unfolding judgement judgementOf bySigner foundStatus
@@ -137,7 +121,7 @@ effectOf-small : (kind : TampType) (s : List ℕ) (q : Request) (rights : Rights
 unfolding effectOf queryEffect adjustEffect communityEffect updateEffect
 effectOf-small StatusQuery s q rights σ = omega arith
 effectOf-small Update s q rights σ =
-    by-test (ltb maxUpdates (length (entriesIn s (q .body) (q .msgref))))
+    by-test (ltb maxUpdates (length (entriesIn s (q .updates))))
     (λ t. rw (t, updateEffect) (omega arith))
     (λ t. rw (t, updateEffect) (omega arith))
 effectOf-small CommunityUpdate s q rights σ = community-small _ _ _ (σ .communities)

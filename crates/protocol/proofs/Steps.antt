@@ -16,12 +16,12 @@ use Rattle.syntax.specs.declared.TampType.the-variants.{StatusQuery, Update, Co
 use Rattle.rights.specs.Rights.{Rights, Content, authorises, nothing}
 use Rattle.rights.specs.Decision.{within}
 use Rattle.rights.proofs.Within.{below, apex as apex-authorises}
-use Rattle.anchor.specs.Info.{rightsOf}
+use Rattle.anchor.specs.Info.{rightsOf, untagged}
 use Rattle.store.specs.Store.{Anchor, Store, identifierOf}
 use Rattle.message.specs.declared.Request.{Request}
 use Rattle.message.specs.declared.Entry.{Entry}
 use Rattle.message.specs.declared.Entry.the-variants as entry
-use Rattle.message.specs.Fields.{seqNumIn, entriesIn, seqNumbersIn, keyIn}
+use Rattle.message.specs.Fields.{entriesIn, seqNumbersIn}
 use Rattle.protocol.specs.Acceptance.{rightsAt}
 use Rattle.protocol.specs.Update.{Step, unnumbered, added, hasKey, without, removed, step, steps, numbered, withSeqNumber, withSeqNumbers}
 use Rattle.protocol.specs.Effect.{numberSet, withNumber, queryEffect, adjustEffect, communityEffect, updateEffect, effectOf, effect}
@@ -56,14 +56,14 @@ module _ (content : Content) where
   holders-withNumber (suc i) n σ f = ap (λ r. σ .apex ∷ r) (keep-numberSet i n (σ .others) f)
 
   -- the numbers of appended anchors, none of which authorises the content
-  may-stamped : (p : List ℕ × ℕ) (a : Anchor) → may content (withSeqNumber p a) ≡ may content a
+  may-seqNumber : (p : List ℕ × ℕ) (a : Anchor) → may content (withSeqNumber p a) ≡ may content a
   unfolding withSeqNumber
-  may-stamped p a = by-test (same (identifierOf a) (p .0)) (λ t. rw (t, withSeqNumber)) (λ t. rw (t, withSeqNumber))
+  may-seqNumber p a = by-test (same (identifierOf a) (p .0)) (λ t. rw (t, withSeqNumber)) (λ t. rw (t, withSeqNumber))
 
-  pub keep-allStamped : (ps : List (List ℕ × ℕ)) (new : List Anchor) → filter (may content) new ≡ [] → filter (may content) (withSeqNumbers ps new) ≡ []
+  pub keep-seqNumbers : (ps : List (List ℕ × ℕ)) (new : List Anchor) → filter (may content) new ≡ [] → filter (may content) (withSeqNumbers ps new) ≡ []
   unfolding withSeqNumbers
-  keep-allStamped [] new e = e
-  keep-allStamped (p ∷ ps) new e = keep-allStamped ps (map (withSeqNumber p) new) (keep-map-none (may content) (withSeqNumber p) (may-stamped p) new e)
+  keep-seqNumbers [] new e = e
+  keep-seqNumbers (p ∷ ps) new e = keep-seqNumbers ps (map (withSeqNumber p) new) (keep-map-none (may content) (withSeqNumber p) (may-seqNumber p) new e)
 
 -- the entries, by a signer that does not authorise the content
 module _ (content : Content) (rights : Rights) (silent : authorises rights content ≡ false) where
@@ -120,7 +120,7 @@ module _ (content : Content) (rights : Rights) (silent : authorises rights conte
   unfolding step
   kept-step s apex old new (entry.Add e) = kept-added apex old new (encoding s e)
   kept-step s apex old new entry.AddCertificate = same-anchors old new
-  kept-step s apex old new (entry.Remove e) = kept-removed apex old new (keyIn s e)
+  kept-step s apex old new (entry.Remove e) = kept-removed apex old new (untagged (encoding s e))
   kept-step s apex old new entry.Change = same-anchors old new
 
   pub kept-steps : (s : List ℕ) (apex : Anchor) (old new : List Anchor) (es : List Entry)
@@ -137,11 +137,11 @@ module _ (content : Content) (rights : Rights) (silent : authorises rights conte
   holders-update : (s : List ℕ) (q : Request) (σ : Store) → holders content (updateEffect s q rights σ .store) ≡ holders content σ
   unfolding updateEffect
   holders-update s q σ =
-      let entries = entriesIn s (q .body) (q .msgref) in
+      let entries = entriesIn s (q .updates) in
       let done = steps s rights (σ .apex) (σ .others) [] entries in
       let kept = kept-steps s (σ .apex) (σ .others) [] entries in
-      let numbers = seqNumbersIn s (q .body) in
-      let new : filter (may content) (withSeqNumbers numbers (done .new)) ≡ [] = keep-allStamped content numbers (done .new) (kept .of-new ∙ keep-none (may content)) in
+      let numbers = seqNumbersIn s (q .numbers) in
+      let new : filter (may content) (withSeqNumbers numbers (done .new)) ≡ [] = keep-seqNumbers content numbers (done .new) (kept .of-new ∙ keep-none (may content)) in
       by-test (ltb maxUpdates (length entries))
       (λ t. rw (t, updateEffect))
       (λ t. rw (t, updateEffect)
@@ -160,5 +160,5 @@ pub holders-effect : (content : Content) (s : List ℕ) (q : Request) (i : ℕ) 
     → holders content (effect s q i σ .store) ≡ holders content σ
 unfolding effect
 holders-effect content s q i σ f =
-    let n = seqNumIn s (q .msgref) in
+    let n = q .number in
     holders-effectOf content (rightsAt σ i) f (q .kind) s q (withNumber i n σ) ∙ holders-withNumber content i n σ f

@@ -20,6 +20,7 @@ use Rattle.syntax.specs.declared.TampType.the-variants.{StatusQuery, Update, Co
 use Rattle.syntax.specs.Asn.{StoredTrustAnchorInfo}
 use Rattle.rights.specs.Rights.{Rights}
 use Rattle.anchor.specs.Judge.{judge, passes, conforms, storable}
+use Rattle.anchor.specs.Info.{untagged}
 use Rattle.store.specs.Store.{Anchor, Store, anchors, publicKeyOf, identifierOf}
 use Rattle.store.specs.Image.{decode, nameOk, anchorOk, wellFormed}
 use Rattle.store.proofs.Readers.{section-parts, section-ok}
@@ -30,7 +31,7 @@ use Rattle.message.specs.declared.Request.{Request}
 use Rattle.message.specs.declared.Received.the-variants.{Asks}
 use Rattle.message.specs.declared.Entry.{Entry}
 use Rattle.message.specs.declared.Entry.the-variants as entry
-use Rattle.message.specs.Fields.{seqNumIn, updatesIn, entriesIn, seqNumbersIn, keyIn, additionsIn}
+use Rattle.message.specs.Fields.{entriesIn, seqNumbersIn, additionsIn}
 use Rattle.message.specs.Rows.{received}
 use Rattle.message.proofs.Entries.{Adding}
 use Rattle.message.proofs.Asked.{asked-number, asked-adds, asked-seqNumbers, asked-additions}
@@ -126,32 +127,32 @@ valid-withNumber (suc i) n σ b w =
 abbrev SmallNumbers : List (List ℕ × ℕ) → Type 0
 SmallNumbers ps = Every (λ p. p .1 ≤ maxNumber) ps
 
-stamped-key : (p : List ℕ × ℕ) (a : Anchor) → publicKeyOf (withSeqNumber p a) ≡ publicKeyOf a
+seqNumber-key : (p : List ℕ × ℕ) (a : Anchor) → publicKeyOf (withSeqNumber p a) ≡ publicKeyOf a
 unfolding withSeqNumber
-stamped-key p a = by-test (same (identifierOf a) (p .0)) (λ t. rw (t, withSeqNumber)) (λ t. rw (t, withSeqNumber))
+seqNumber-key p a = by-test (same (identifierOf a) (p .0)) (λ t. rw (t, withSeqNumber)) (λ t. rw (t, withSeqNumber))
 
-stamped-ok : (p : List ℕ × ℕ) → p .1 ≤ maxNumber → (a : Anchor) → anchorOk a ≡ true → anchorOk (withSeqNumber p a) ≡ true
+seqNumber-ok : (p : List ℕ × ℕ) → p .1 ≤ maxNumber → (a : Anchor) → anchorOk a ≡ true → anchorOk (withSeqNumber p a) ≡ true
 unfolding withSeqNumber
-stamped-ok p b a ok = by-test (same (identifierOf a) (p .0)) (λ t. rw (t, withSeqNumber) (numbered-ok (p .1) a b ok)) (λ t. rw (t, withSeqNumber) ok)
+seqNumber-ok p b a ok = by-test (same (identifierOf a) (p .0)) (λ t. rw (t, withSeqNumber) (numbered-ok (p .1) a b ok)) (λ t. rw (t, withSeqNumber) ok)
 
-allStamped-keys : (ps : List (List ℕ × ℕ)) (l : List Anchor) → map publicKeyOf (withSeqNumbers ps l) ≡ map publicKeyOf l
+seqNumbers-keys : (ps : List (List ℕ × ℕ)) (l : List Anchor) → map publicKeyOf (withSeqNumbers ps l) ≡ map publicKeyOf l
 unfolding withSeqNumbers
-allStamped-keys [] l = refl
-allStamped-keys (p ∷ ps) l = allStamped-keys ps (map (withSeqNumber p) l) ∙ map-map publicKeyOf (withSeqNumber p) l ∙ map-same (stamped-key p) l
+seqNumbers-keys [] l = refl
+seqNumbers-keys (p ∷ ps) l = seqNumbers-keys ps (map (withSeqNumber p) l) ∙ map-map publicKeyOf (withSeqNumber p) l ∙ map-same (seqNumber-key p) l
 
-allStamped-ok : (ps : List (List ℕ × ℕ)) (l : List Anchor) → SmallNumbers ps → allOf anchorOk l ≡ true → allOf anchorOk (withSeqNumbers ps l) ≡ true
+seqNumbers-ok : (ps : List (List ℕ × ℕ)) (l : List Anchor) → SmallNumbers ps → allOf anchorOk l ≡ true → allOf anchorOk (withSeqNumbers ps l) ≡ true
 unfolding withSeqNumbers
-allStamped-ok [] l b e = e
-allStamped-ok (p ∷ ps) l b e =
-    allStamped-ok ps (map (withSeqNumber p) l) (b .1) (allOf-map anchorOk (withSeqNumber p) (stamped-ok p (b .0)) l e)
+seqNumbers-ok [] l b e = e
+seqNumbers-ok (p ∷ ps) l b e =
+    seqNumbers-ok ps (map (withSeqNumber p) l) (b .1) (allOf-map anchorOk (withSeqNumber p) (seqNumber-ok p (b .0)) l e)
 
-valid-allStamped : (front : List Anchor) (ps : List (List ℕ × ℕ)) (new : List Anchor) → SmallNumbers ps → ValidAnchors (front ++ new) → ValidAnchors (front ++ withSeqNumbers ps new)
-valid-allStamped front ps new b g =
+valid-seqNumbers : (front : List Anchor) (ps : List (List ℕ × ℕ)) (new : List Anchor) → SmallNumbers ps → ValidAnchors (front ++ new) → ValidAnchors (front ++ withSeqNumbers ps new)
+valid-seqNumbers front ps new b g =
     valid-renumbered
     (front ++ new)
     (front ++ withSeqNumbers ps new)
-    (map-append publicKeyOf front (withSeqNumbers ps new) ∙ ap (λ r. map publicKeyOf front ++ r) (allStamped-keys ps new) ∙ sym (map-append publicKeyOf front new))
-    (allOf-append anchorOk front (withSeqNumbers ps new) (allOf-front anchorOk front new (g .each)) (allStamped-ok ps new b (allOf-after anchorOk front new (g .each))))
+    (map-append publicKeyOf front (withSeqNumbers ps new) ∙ ap (λ r. map publicKeyOf front ++ r) (seqNumbers-keys ps new) ∙ sym (map-append publicKeyOf front new))
+    (allOf-append anchorOk front (withSeqNumbers ps new) (allOf-front anchorOk front new (g .each)) (seqNumbers-ok ps new b (allOf-after anchorOk front new (g .each))))
     g
 
 -- Entries
@@ -215,7 +216,7 @@ valid-step : (s : List ℕ) (rights : Rights) (apex : Anchor) (old new : List An
 unfolding step conforms
 valid-step s rights apex old new (entry.Add e) c g = valid-added rights apex old new (encoding s e) c g
 valid-step s rights apex old new entry.AddCertificate c g = g
-valid-step s rights apex old new (entry.Remove e) c g = valid-removed rights apex old new (keyIn s e) g
+valid-step s rights apex old new (entry.Remove e) c g = valid-removed rights apex old new (untagged (encoding s e)) g
 valid-step s rights apex old new entry.Change c g = g
 
 pub valid-steps : (s : List ℕ) (rights : Rights) (apex : Anchor) (old new : List Anchor) (es : List Entry) → Every (Adding s) es
@@ -282,11 +283,11 @@ valid-communities present removals additions l oids g =
 -- Effects
 
 module _ (s : List ℕ) (q : Request) (σ : Store) (w : Good σ) where
-  valid-update : (rights : Rights) → Every (Adding s) (entriesIn s (q .body) (q .msgref)) → SmallNumbers (seqNumbersIn s (q .body))
+  valid-update : (rights : Rights) → Every (Adding s) (entriesIn s (q .updates)) → SmallNumbers (seqNumbersIn s (q .numbers))
       → Good (updateEffect s q rights σ .store)
   unfolding updateEffect
   valid-update rights adds numbers =
-      let entries = entriesIn s (q .body) (q .msgref) in
+      let entries = entriesIn s (q .updates) in
       let done = steps s rights (σ .apex) (σ .others) [] entries in
       let g : ValidAnchors (σ .apex ∷ (done .old ++ done .new)) =
       valid-steps s rights (σ .apex) (σ .others) [] entries adds (rw (append-nil (σ .others)) (w .of-anchors))
@@ -297,11 +298,11 @@ module _ (s : List ℕ) (q : Request) (σ : Store) (w : Good σ) where
       rw (t, updateEffect)
       (record {
         of-device = w .of-device;
-        of-anchors = valid-allStamped (σ .apex ∷ done .old) (seqNumbersIn s (q .body)) (done .new) numbers g;
+        of-anchors = valid-seqNumbers (σ .apex ∷ done .old) (seqNumbersIn s (q .numbers)) (done .new) numbers g;
         of-communities = w .of-communities;
       }))
 
-  valid-community : Every (λ o. oidOk o ≡ true) (additionsIn s (updatesIn s (q .body) (q .msgref))) → Good (communityEffect s q σ .store)
+  valid-community : Every (λ o. oidOk o ≡ true) (additionsIn s (q .updates)) → Good (communityEffect s q σ .store)
   unfolding communityEffect
   valid-community oids =
       record {
@@ -313,14 +314,14 @@ module _ (s : List ℕ) (q : Request) (σ : Store) (w : Good σ) where
   valid-effectOf : (rights : Rights) → Octets s → received s ≡ Asks q → (kind : TampType) → q .kind ≡ kind → Good (effectOf kind s q rights σ .store)
   unfolding effectOf queryEffect adjustEffect
   valid-effectOf rights o r StatusQuery k = w
-  valid-effectOf rights o r Update k = valid-update rights (asked-adds s q r k) (asked-seqNumbers s q r k o)
+  valid-effectOf rights o r Update k = valid-update rights (asked-adds s q r k) (asked-seqNumbers s q r k)
   valid-effectOf rights o r CommunityUpdate k = valid-community (asked-additions s q r k)
   valid-effectOf rights o r SeqNumAdjust k = w
 
 valid-effect : (s : List ℕ) (q : Request) (i : ℕ) (σ : Store) → Octets s → received s ≡ Asks q → Good σ → Good (effect s q i σ .store)
 unfolding effect
 valid-effect s q i σ o r g =
-    let n = seqNumIn s (q .msgref) in
+    let n = q .number in
     valid-effectOf s q (withNumber i n σ) (valid-withNumber i n σ (asked-number s q r o) g) (rightsAt σ i) o r (q .kind) refl
 
 -- what an accepted message leaves of a well-formed store is well-formed

@@ -1,4 +1,5 @@
--- 01, Answers: the call.
+-- 01, Answers: the call. Each house refusal is a row that is a test, which applies where it is true (202 to 205; 201 is that `decode` gives nothing), and
+-- `givenIf` gives the first that applies: these rows have neither offset nor reply. The rows of statuses are Fits (envelope's specs/Rows).
 use Prim.Native.Nat.{ℕ}
 use mathlib.Core.Bool.{Bool, true, false, not, _&&_, _||_}
 use mathlib.Core.List.{List, []}
@@ -30,7 +31,7 @@ pub data Outcome : Type 0 where
 unfoldable pub row-202 : Store → List ℕ → Bool
 row-202 σ verdict = not (eqb (length verdict) (length (anchors σ)) && allOf (λ v. leb v 1) verdict)
 
--- 203: what each buffer must have room for, the next store's for an image
+-- 203: what each buffer must have room for. (The next store's is given the image, which 02's E11 will ask for; today it is the same for all.)
 abbrev pub replyNeeds : ℕ
 replyNeeds = replyRoom
 
@@ -49,16 +50,18 @@ unfoldable pub row-205 : Outcome → Bool
 row-205 (refused number) = false
 row-205 (answered status reply next) = ltb replyNeeds (length reply)
 
--- "Statuses 1, 2, 3 and 4 have no reply. The rest reply with a TAMP Error, with msgRef from 127 on, without it before": what it repeats of the message stands in the refusal
+-- "Statuses 1, 2, 3 and 4 have no reply (length 0). The rest reply with a TAMP Error, with msgRef from 127 on, without it before": what it repeats of the
+-- message stands in the refusal
 unfoldable pub refusalReply : List ℕ → Refusal → List ℕ
 refusalReply s r =
     elim (r .msgtype .valid) [ true ↦ tampError (contents s (r .msgtype)) (r .status) (encoding s (r .msgref)) | false ↦ [] ]
 
--- "These answers leave the store alone" (a copy where nothing changed); an accepted message writes its effect
+-- "The next store is written whole (a copy where nothing changed)"; "These answers leave the store alone"; an accepted message writes its effect
 unfoldable pub answerOf : List ℕ → List ℕ → Store → Judgement → Outcome
 answerOf s image σ (Refuses r) = answered (r .status) (refusalReply s r) image
 answerOf s image σ (Accepts q i) = let e = effect s q i σ in answered (e .status) (e .reply) (encode (e .store))
 
+-- 205, else the answer
 unfoldable pub guarded : Outcome → Outcome
 guarded answer = givenIf (row-205 answer) (refused longReply) answer
 
@@ -70,6 +73,7 @@ callOn σ s image verdict replyLent nextLent =
     (givenIf (row-204 s) (refused longMessage)
     (guarded (answerOf s image σ (judgement σ verdict s)))))
 
+-- 201, where the image has no store
 unfoldable pub callOf : Option Store → List ℕ → List ℕ → List ℕ → ℕ → ℕ → Outcome
 callOf none s image verdict replyLent nextLent = refused badImage
 callOf (some σ) s image verdict replyLent nextLent = callOn σ s image verdict replyLent nextLent

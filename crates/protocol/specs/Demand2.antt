@@ -1,5 +1,6 @@
--- Demand 2, its last sentence: "An enrolment that passes the earlier checks is refused for its rights exactly when some content exists that the new anchor would authorise and the signer does not."
--- Here it is an add that passes 34, and 17 for size; it is refused by 11; and the signer's rights are read from the store that the call was given. Over octets: message, image and reply as they come.
+-- Demand 2, its last sentence: "An enrolment that passes the earlier checks is refused for its rights exactly when some content exists that the new anchor
+-- would authorise and the signer does not." Here it is an add that passes 34, and 17 for size; it is refused by 11; and the signer's rights are read from the
+-- store that the call was given. Over octets: message, image and reply as they come.
 use Prim.Native.Nat.{ℕ, _≤_, _<_}
 use mathlib.Core.Bool.{true}
 use mathlib.Core.List.{List}
@@ -31,9 +32,10 @@ use Rattle.protocol.specs.Call.{answered, call}
 
 -- the entries of an Update
 abbrev pub entriesOf : List ℕ → Request → List Entry
-entriesOf s q = entriesIn s (q .body) (q .msgref)
+entriesOf s q = entriesIn s (q .updates)
 
--- 11 exactly when some content exists, among all contents and among those that are contents by DER (rights, specs/Valid)
+-- 11 "exactly when some content exists that the new anchor would authorise and the signer does not": among all contents, and among those that are contents by
+-- DER (rights, specs/Valid)
 abbrev pub Exactly : Status → Rights → Rights → Type 0
 Exactly status signer new = ((status ≡ notAuthorized) ↔ Outside signer new) × ((status ≡ notAuthorized) ↔ ValidOutside signer new)
 

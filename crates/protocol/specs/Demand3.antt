@@ -1,4 +1,5 @@
--- Demand 3: over any list of calls, where no accepted message's signer authorised a content, the anchors that authorise it stay as they were, to the last byte.
+-- Demand 3: over any list of calls, where no accepted message's signer authorised a content, the anchors that authorise it stay as they were, in the same
+-- order, and their records are equal to the last byte, sequence numbers included.
 use Prim.Native.Nat.{ℕ}
 use mathlib.Core.Bool.{false}
 use mathlib.Core.List.{List, [], _∷_}
@@ -59,7 +60,8 @@ Unauthorised content image (g ∷ gs) =
     ((rights : Rights) → acceptedSigner image g ≡ some rights → authorises rights content ≡ false)
     × Unauthorised content (storeAfter image (outcome image g)) gs
 
--- those of the anchors that authorise a content, in order: the apex, which authorises everything, and others by their TrustAnchorInfo
+-- those of the anchors that authorise a content, in order: the apex, which authorises everything, and others by their TrustAnchorInfo ("what an anchor authorises is
+-- read from the store it stands in")
 unfoldable pub authorising : Content → List (List ℕ) → List (List ℕ)
 authorising content [] = []
 authorising content (apex ∷ others) = apex ∷ filter (λ r. authorises (rightsOf (drop 11 r)) content) others

@@ -13,7 +13,7 @@ use Rattle.syntax.specs.declared.TampType.{TampType}
 use Rattle.syntax.specs.declared.TampType.the-variants.{StatusQuery, Update, CommunityUpdate, SeqNumAdjust}
 use Rattle.store.specs.Store.{Anchor, Store, identifiers}
 use Rattle.message.specs.declared.Request.{Request}
-use Rattle.message.specs.Fields.{seqNumIn, updatesIn, entriesIn, seqNumbersIn, removeIn, oidsIn, additionsIn}
+use Rattle.message.specs.Fields.{entriesIn, seqNumbersIn, removeIn, oidsIn, additionsIn}
 use Rattle.reply.specs.Replies.{tampError, statusResponse, updateConfirm, communityConfirm, adjustConfirm}
 use Rattle.rights.specs.Rights.{Rights}
 use Rattle.protocol.specs.Acceptance.{rightsAt}
@@ -40,7 +40,7 @@ withNumber (suc i) n σ = record { device = σ .device; apex = σ .apex; others 
 -- Update. σ has the signer's number already; the rights are the signer's at acceptance. Over 16 entries: 17 for the message as a whole, by TAMP Error, and the number still moves.
 unfoldable pub updateEffect : List ℕ → Request → Rights → Store → Effect
 updateEffect s q rights σ =
-    let entries = entriesIn s (q .body) (q .msgref) in
+    let entries = entriesIn s (q .updates) in
     let done = steps s rights (σ .apex) (σ .others) [] entries in
     elim (ltb maxUpdates (length entries)) [
       | true ↦
@@ -53,17 +53,16 @@ updateEffect s q rights σ =
           record {
             status = success;
             reply = updateConfirm (encoding s (q .msgref)) (done .statuses);
-            store = withOthers (done .old ++ withSeqNumbers (seqNumbersIn s (q .body)) (done .new)) σ;
+            store = withOthers (done .old ++ withSeqNumbers (seqNumbersIn s (q .numbers)) (done .new)) σ;
           }
     ]
 
 -- Community Update: "call and confirm carry the code"
 unfoldable pub communityEffect : List ℕ → Request → Store → Effect
 communityEffect s q σ =
-    let updates = updatesIn s (q .body) (q .msgref) in
-    let remove = removeIn s updates in
+    let remove = removeIn s (q .updates) in
     let removals = oidsIn s remove in
-    let additions = additionsIn s updates in
+    let additions = additionsIn s (q .updates) in
     let status = communityStatus (remove .valid) removals additions (σ .communities) in
     record {
       status = status;
@@ -86,6 +85,6 @@ effectOf Update s q rights σ = updateEffect s q rights σ
 effectOf CommunityUpdate s q rights σ = communityEffect s q σ
 effectOf SeqNumAdjust s q rights σ = adjustEffect s q σ
 
--- what a message s accepted as request q of the anchor at position i does
+-- what a message s accepted as request q of the anchor at position i does, "by the signer's rights at acceptance"
 unfoldable pub effect : List ℕ → Request → ℕ → Store → Effect
-effect s q i σ = effectOf (q .kind) s q (rightsAt σ i) (withNumber i (seqNumIn s (q .msgref)) σ)
+effect s q i σ = effectOf (q .kind) s q (rightsAt σ i) (withNumber i (q .number) σ)

@@ -1,3 +1,4 @@
+pub mod Target
 pub mod Acceptance
 pub mod Update
 pub mod Community

@@ -15,12 +15,11 @@ use Rattle.octets.specs.Octets.{same}
 use Rattle.der.specs.Element.{encoding}
 use Rattle.rights.specs.Rights.{Rights}
 use Rattle.rights.specs.Decision.{within}
-use Rattle.anchor.specs.Info.{publicKey, rightsOf}
+use Rattle.anchor.specs.Info.{publicKey, untagged, rightsOf}
 use Rattle.anchor.specs.Judge.{judge, checkStatus, passes}
 use Rattle.store.specs.Store.{Anchor, publicKeyOf, identifierOf}
 use Rattle.message.specs.declared.Entry.{Entry}
 use Rattle.message.specs.declared.Entry.the-variants as entry
-use Rattle.message.specs.Fields.{keyIn}
 
 -- what an entry leaves: its status, the anchors that stood before this message, and those that this message appended. The apex stays.
 pub record Step : Type 0 where
@@ -28,7 +27,7 @@ pub record Step : Type 0 where
   pub old : List Anchor
   pub new : List Anchor
 
--- the anchor that an add of t by these rights stores: as sent
+-- the anchor that an add of t by these rights stores: as sent, until 02's E2 cuts it down to the signer's rights
 abbrev pub storedAs : Rights → List ℕ → List ℕ
 storedAs rights t = t
 
@@ -67,7 +66,7 @@ removed rights apex old new key =
 unfoldable pub step : List ℕ → Rights → Anchor → List Anchor → List Anchor → Entry → Step
 step s rights apex old new (entry.Add e) = added rights apex old new (encoding s e)
 step s rights apex old new entry.AddCertificate = unchanged unsupportedTrustAnchorFormat old new
-step s rights apex old new (entry.Remove e) = removed rights apex old new (keyIn s e)
+step s rights apex old new (entry.Remove e) = removed rights apex old new (untagged (encoding s e))
 step s rights apex old new entry.Change = unchanged improperTAChange old new
 
 -- what all entries leave: "a status per entry"

@@ -8,7 +8,8 @@ use Rattle.octets.specs.Lists.{anyOf}
 use Rattle.octets.specs.Octets.{same, member, distinct}
 use Rattle.octets.proofs.Lists.{by-test, same-refl, same→≡, member-append, member-none, distinct-parts}
 use Rattle.der.specs.declared.Element.{Element}
-use Rattle.der.specs.Element.{absent, elementAt, nextAt}
+use Rattle.der.specs.Element.{absent, elementAt}
+use Rattle.der.specs.contract.Reading.{nextAt}
 use Rattle.der.proofs.Elements.{elements-end}
 use Rattle.der.proofs.Runs.{run-turn}
 use Rattle.der.specs.declared.Compared.{Compared}

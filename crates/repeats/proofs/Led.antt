@@ -6,7 +6,7 @@ use mathlib.Core.List.{List, [], _∷_, _++_}
 use mathlib.Core.Path.{_≡_, sym, ap, _∙_}
 use Rattle.octets.specs.Octets.{same, member}
 use Rattle.octets.proofs.Lists.{by-test, same→≡, member-none, member-append}
-use Rattle.repeats.specs.Order.{step, find, Below}
+use Rattle.repeats.specs.contract.Order.{step, find, Below}
 use Rattle.repeats.proofs.Keys.{member-cons}
 
 module _ (before : ℕ → Bool) (weight low : ℕ) where

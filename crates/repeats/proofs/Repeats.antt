@@ -16,7 +16,7 @@ use Rattle.der.specs.declared.Compared.{Compared}
 use Rattle.repeats.specs.declared.Repeat.{Repeat}
 use Rattle.repeats.specs.declared.Repeat.the-variants.{Never, At}
 use Rattle.der.specs.Keys.{keyOf, keysFrom}
-use Rattle.repeats.specs.Keys.{firstRepeat, isAt}
+use Rattle.repeats.specs.contract.Keys.{firstRepeat, isAt}
 use Rattle.repeats.proofs.Keys.{keys-end, distinct-before}
 use Rattle.repeats.proofs.Flags.{distinct-more}
 

@@ -12,8 +12,8 @@ ghost use lib.Dec.{eqb};
 ghost use Rattle.octets.specs.Octets.{member, distinct};
 ghost use Rattle.der.specs.Element.{inside};
 ghost use Rattle.der.specs.Keys.{keysFrom, keysIn};
-ghost use Rattle.repeats.specs.Keys.{firstRepeat, isAt};
-ghost use Rattle.repeats.specs.Order.{cells, keyAt, isBefore, step as stepOf, find as findOf, ledTo, Below};
+ghost use Rattle.repeats.specs.contract.Keys.{firstRepeat, isAt};
+ghost use Rattle.repeats.specs.contract.Order.{areFew, cells, keyAt, isBefore, step as stepOf, find as findOf, ledTo, Below};
 
 // The place of the first member whose key stood before.
 pub enum Repeat {
@@ -226,7 +226,9 @@ fn search(
 }
 
 // Few members, which are compared.
-fn are_few(head: Element, list: Element) -> bool {
+fn are_few(head: Element, list: Element) -> bool
+    ensures { λ r. ⌜ r ≡ areFew head list ⌝ }
+{
     if list.stop <= list.start {
         return true;
     }

@@ -8,14 +8,13 @@ use Rattle.octets.specs.declared.Status.{Status}
 use Rattle.octets.specs.Octets.{placed}
 use Rattle.der.specs.Write.{header, element}
 use Rattle.store.specs.Records.{recordsOf}
-use Rattle.store.specs.Parts.{identifierIn, communitiesOf}
+use Rattle.store.specs.contract.Parts.{identifierIn, communitiesOf}
 use Rattle.reply.specs.declared.Listed.the-variants.{Identifiers, Communities}
 use Rattle.reply.specs.declared.Part.{Part}
 use Rattle.reply.specs.declared.Part.the-variants.{Octets, Header, Codes, List as ListOf}
 use Rattle.reply.specs.Replies.{statusCode, listOf, tampError, statusResponse, updateConfirm}
-use Rattle.reply.specs.Parts.{statusNumbered, elementSize, statusCodes, partOf, joined, fiveParts, behindHeader, replyParts, identifierParts}
-use Rattle.reply.specs.Parts.{communityParts}
-use Rattle.reply.specs.Parts.{terseSize, responseOf}
+use Rattle.reply.specs.contract.Parts.{statusNumbered, elementSize, replySize, statusCodes, partOf, joined, fiveParts, behindHeader, replyParts}
+use Rattle.reply.specs.contract.Parts.{identifierParts, communityParts, terseSize, responseOf}
 use Rattle.reply.proofs.Elements.{length-element, element-is}
 use Rattle.reply.proofs.Codes.{one-status, length-code, length-statuses, length-codes}
 use Rattle.reply.proofs.Members.{listed-identifiers, listed-communities}
@@ -65,7 +64,7 @@ module _ (msgType : List ℕ) (status : Status) (msgRef : List ℕ) where
         length-codes (status .number ∷ []),
       )
 
-  pub error-size : length (tampError msgType status msgRef) ≡ elementSize (0 + elementSize (length msgType) + (3 + length msgRef))
+  pub error-size : length (tampError msgType status msgRef) ≡ replySize 0 (length msgType) (3 + length msgRef)
   unfolding tampError
   error-size =
       let after = statusCode status ++ msgRef in
@@ -94,7 +93,7 @@ module _ (msgRef : List ℕ) where
   answer-is tag {m} contents e f =
       ap (λ (z : List ℕ). element 0x30 (msgRef ++ z)) (ap (λ (z : List ℕ). header tag m ++ z) f ∙ sym (element-is tag contents e))
 
-  pub answer-size : (tag : ℕ) (contents : List ℕ) → length (element 0x30 (msgRef ++ element tag contents)) ≡ elementSize (length msgRef + elementSize (length contents) + 0)
+  pub answer-size : (tag : ℕ) (contents : List ℕ) → length (element 0x30 (msgRef ++ element tag contents)) ≡ replySize (length msgRef) (length contents) 0
   answer-size tag contents =
       length-element 0x30 (msgRef ++ element tag contents)
       ∙ ap elementSize (omega (arith, length-append msgRef (element tag contents), length-element tag contents))
@@ -104,11 +103,11 @@ module _ (msgRef : List ℕ) where
   code-is tag code = answer-is tag (code ∷ []) refl refl
 
   -- TAMPUpdateConfirm
-  pub update-size : (l : List Status) {n : ℕ} → length l ≡ n → length (updateConfirm msgRef l) ≡ elementSize (length msgRef + elementSize (3 * n) + 0)
+  pub update-size : (l : List Status) {n : ℕ} → length l ≡ n → length (updateConfirm msgRef l) ≡ replySize (length msgRef) (3 * n) 0
   unfolding updateConfirm
   update-size l e =
       answer-size 0xA0 (flatMap statusCode l)
-      ∙ ap (λ (k : ℕ). elementSize (length msgRef + elementSize k + 0)) (length-statuses l ∙ ap (λ (k : ℕ). 3 * k) e)
+      ∙ ap (λ (k : ℕ). replySize (length msgRef) k 0) (length-statuses l ∙ ap (λ (k : ℕ). 3 * k) e)
 
   module _ (codes : List ℕ) where
     abbrev terseConfirm : List ℕ
@@ -146,7 +145,7 @@ module _ (msgRef : List ℕ) where
     unfolding statusResponse identifierParts communityParts
     response-is = answer-is 0xA0 (identifierParts image ++ communityParts image) both lists
 
-    pub response-size : length (responseOf msgRef image) ≡ elementSize (length msgRef + elementSize m + 0)
+    pub response-size : length (responseOf msgRef image) ≡ replySize (length msgRef) m 0
     unfolding statusResponse identifierParts communityParts
     response-size =
-        answer-size 0xA0 (identifierParts image ++ communityParts image) ∙ ap (λ (k : ℕ). elementSize (length msgRef + elementSize k + 0)) (sym both)
+        answer-size 0xA0 (identifierParts image ++ communityParts image) ∙ ap (λ (k : ℕ). replySize (length msgRef) k 0) (sym both)

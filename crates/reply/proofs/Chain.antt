@@ -44,7 +44,7 @@ use Rattle.octets.specs.Octets.{placed}
 use Rattle.octets.proofs.Turns.{Unwritten, left-start, left-room, left-turn, left-end}
 use Rattle.reply.specs.declared.Writer.{Writer}
 use Rattle.reply.specs.declared.Part.{Part}
-use Rattle.reply.specs.Parts.{partOf, wrote, joined}
+use Rattle.reply.specs.contract.Parts.{partOf, wrote, joined}
 use Rattle.reply.proofs.Writer as T
 use Rattle.reply.proofs.Writer.Laws as T′
 use Rattle.reply.proofs.Part as P

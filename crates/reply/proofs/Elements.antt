@@ -12,7 +12,7 @@ use Rattle.octets.proofs.Number.{length-digits}
 use Rattle.octets.proofs.Turns.{Unwritten, left-start, left-fits, left-step, last-fits, last-step}
 use Rattle.der.specs.Write.{lengthOctets, header, element}
 use Rattle.der.proofs.Writes.{short-octets, long-octets}
-use Rattle.reply.specs.Parts.{elementSize}
+use Rattle.reply.specs.contract.Parts.{elementSize}
 
 -- the length octets are nine at most
 pub length-octets : (n : ℕ) → length (lengthOctets n) ≤ 9

@@ -13,14 +13,14 @@ use Rattle.octets.proofs.Lists.{by-test}
 use Rattle.der.specs.Write.{header, element}
 use Rattle.anchor.specs.Info.{keyIdField}
 use Rattle.store.specs.Records.{recordsFrom, recordsOf}
-use Rattle.store.specs.Parts.{anchorPlace, anchorCount, firstRecord, recordEnd, recordAt, infoIn, identifierIn, nameEnd, namesFrom, communityPlace}
-use Rattle.store.specs.Parts.{communityCount, communityOctets, communitiesOf, namesSize}
+use Rattle.store.specs.contract.Parts.{anchorPlace, anchorCount, firstRecord, recordEnd, recordAt, infoIn, identifierIn, nameEnd, namesFrom, communityPlace}
+use Rattle.store.specs.contract.Parts.{communityCount, communityOctets, communitiesOf, namesSize}
 use Rattle.store.proofs.Walk.{records-of, records-turn, names-turn}
 use Rattle.reply.specs.declared.Listed.{Listed}
 use Rattle.reply.specs.declared.Listed.the-variants.{Identifiers, Communities}
 use Rattle.reply.specs.Replies.{listOf}
-use Rattle.reply.specs.Parts.{elementSize, rowsIn, countIn, memberAt, memberEnd, tagOf, contentsFrom, membersFrom, listed, identifierParts}
-use Rattle.reply.specs.Parts.{communityParts}
+use Rattle.reply.specs.contract.Parts.{elementSize, rowsIn, countIn, memberAt, memberEnd, tagOf, contentsFrom, membersFrom, listed, identifierParts}
+use Rattle.reply.specs.contract.Parts.{communityParts}
 use Rattle.reply.proofs.Elements.{length-element, length-octets, element-is}
 
 -- what is listed is the store's

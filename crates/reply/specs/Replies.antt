@@ -1,4 +1,4 @@
--- The replies to the last octet: the terse forms of RFC 5934, appendix A.1, with the defaults (version, usesApex) left out. msgRef is the octets of the message's own.
+-- "Replies are the unsigned TAMP content in terse form", to the last octet: RFC 5934, appendix A.1, with the defaults (version, usesApex) left out. msgRef is the octets of the message's own.
 use Prim.Native.Nat.{ℕ}
 use mathlib.Core.List.{List, [], _∷_, _++_, flatMap}
 use Rattle.octets.specs.declared.Status.{Status}

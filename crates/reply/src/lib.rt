@@ -1,14 +1,14 @@
 // The replies of 01: TAMP content in terse form, unsigned (RFC 5934). Built by one writer that keeps the lent reply buffer and its place in it.
 ghost use mathlib.Core.Path.{_≡_};
 ghost use mathlib.Core.List.{List, [], _∷_, _++_, map};
-ghost use Prim.Native.Nat.{ℕ, _+_, _^_, _≤_, _<_};
+ghost use Prim.Native.Nat.{_+_, _^_, _≤_, _<_};
 ghost use lib.ListN.{length};
 ghost use Rattle.octets.specs.Octets.{placed};
 ghost use Rattle.octets.specs.declared.Status.{Status};
 ghost use Rattle.octets.specs.Limits.{maxMessage};
 ghost use Rattle.der.specs.Write.{element};
 ghost use Rattle.reply.specs.Replies.{tampError, updateConfirm, communityConfirm, adjustConfirm};
-ghost use Rattle.reply.specs.Parts.{statusNumbered, elementSize, partOf, wrote, fiveParts, behindHeader, replyParts, terseSize, responseOf};
+ghost use Rattle.reply.specs.contract.Parts.{statusNumbered, replySize, partOf, wrote, fiveParts, behindHeader, replyParts, terseSize, responseOf};
 use octets::Status;
 
 mod parts;
@@ -126,7 +126,7 @@ fn put_reply<'a, 'b>(
 // How many octets a reply takes, before anything is written. What they are made of are parts of a message, of at most 8,192 octets.
 fn reply_size(lead: usize, m: usize, after: usize) -> usize
     requires { ⌜ lead + m + after + 10 < 2 ^ 63 ⌝ }
-    ensures { λ r. ⌜ r ≡ elementSize (lead + elementSize m + after) ⌝ }
+    ensures { λ r. ⌜ r ≡ replySize lead m after ⌝ }
 {
     parts::element_size(lead + parts::element_size(m) + after)
 }
@@ -156,19 +156,19 @@ pub fn confirm_size(msgref: &[u8]) -> usize
 }
 
 // Of the terse response, in its tag.
-pub fn terse_size(image: &[u8]) -> usize
+fn terse_size(image: &[u8]) -> usize
     requires { ⌜ length (now image) < 2 ^ 32 ⌝ }
     ensures { λ r. ⌜ (r ≡ terseSize (now (image .entry))) × (r < 2 ^ 62) ⌝ }
 {
     parts::list_size(Listed::Identifiers, image) + parts::list_size(Listed::Communities, image)
 }
 
-// Of a status response with a terse response of m octets.
-pub fn response_size(msgref: &[u8], m: usize) -> usize
-    requires { ⌜ (length (now msgref) ≤ maxMessage) × (m < 2 ^ 62) ⌝ }
-    ensures { λ r. ⌜ ((image : List ℕ) → m ≡ terseSize image → r ≡ length (responseOf (now (msgref .entry)) image)) ⌝ }
+// Of a status response of the store with this image.
+pub fn response_size(msgref: &[u8], image: &[u8]) -> usize
+    requires { ⌜ (length (now msgref) ≤ maxMessage) × (length (now image) < 2 ^ 32) ⌝ }
+    ensures { λ r. ⌜ r ≡ length (responseOf (now (msgref .entry)) (now (image .entry))) ⌝ }
 {
-    reply_size(msgref.len(), m, 0)
+    reply_size(msgref.len(), terse_size(image), 0)
 }
 
 // The replies of 01.
@@ -267,14 +267,9 @@ pub fn put_adjust_confirm(buf: &mut [u8], msgref: &[u8]) -> usize
     put_code_confirm(buf, msgref, der::ENUMERATED, 0)
 }
 
-// TAMPStatusResponse, of the store with this image, whose terse response has m octets
-pub fn put_status_response<'a, 'b>(
-    buf: &'a mut [u8],
-    msgref: &'b [u8],
-    m: usize,
-    image: &'b [u8],
-) -> usize
-    requires { ⌜ (m ≡ terseSize (now image)) × (length (responseOf (now msgref) (now image)) ≤ length (now buf)) ⌝ }
+// TAMPStatusResponse, of the store with this image
+pub fn put_status_response<'a, 'b>(buf: &'a mut [u8], msgref: &'b [u8], image: &'b [u8]) -> usize
+    requires { ⌜ (length (now image) < 2 ^ 32) × (length (responseOf (now msgref) (now image)) ≤ length (now buf)) ⌝ }
     ensures { λ r. ⌜ (r ≡ length (responseOf (now (msgref .entry)) (now (image .entry))))
         × (now (buf .exit) ≡ placed (now (buf .entry)) 0 (responseOf (now (msgref .entry)) (now (image .entry)))) ⌝ }
 {
@@ -283,7 +278,7 @@ pub fn put_status_response<'a, 'b>(
         buf,
         msgref,
         der::CONSTRUCTED_0,
-        m,
+        terse_size(image),
         0,
         none,
         Part::List(Listed::Identifiers),

@@ -6,7 +6,7 @@ ghost use lib.ListN.{length};
 ghost use Rattle.octets.specs.Octets.{placed};
 ghost use Rattle.der.specs.Write.{header};
 ghost use Rattle.reply.specs.Replies.{listOf};
-ghost use Rattle.reply.specs.Parts.{statusCodes, elementSize, tagOf, rowsIn, countIn, memberAt, memberEnd, membersFrom, listed, partOf};
+ghost use Rattle.reply.specs.contract.Parts.{statusCodes, elementSize, tagOf, rowsIn, countIn, memberAt, memberEnd, membersFrom, listed, partOf};
 use super::Listed;
 use super::Part;
 

@@ -18,7 +18,7 @@ use Rattle.der.specs.declared.Found.the-variants.{At, Nowhere}
 use Rattle.rights.specs.Rights.{Key, Entry, Role, Content, source, carrier, mayAct, allowed, meets, permits, authorises}
 use Rattle.rights.specs.Constraints.{contentTypeConstraint, constraintsRights}
 use Rattle.rights.specs.Attributes.{attrValue, isOtherAttribute, pairs}
-use Rattle.rights.specs.Places.{constraintFor, valuesUnder, governingEntry, rightsEntry, holding, attributeMeets}
+use Rattle.rights.specs.contract.Places.{constraintFor, valuesUnder, governingEntry, rightsEntry, holding, attributeMeets}
 use Rattle.rights.proofs.Places.{values-under, governing-entry}
 
 -- the two types that are not weighed, as the code's constants have them

@@ -10,28 +10,29 @@ use Rattle.octets.specs.Octets.{member}
 use Rattle.der.specs.declared.Element.{Element}
 use Rattle.der.specs.declared.Compared.{Compared}
 use Rattle.der.specs.declared.Compared.the-variants.{Types, Encodings}
-use Rattle.der.specs.Element.{elementAt, nextAt, elements, root, encoding, inside, field}
+use Rattle.der.specs.Element.{elementAt, elements, root, encoding, inside, field}
+use Rattle.der.specs.contract.Reading.{nextAt}
 use Rattle.der.specs.Keys.{typeOf, keyOf, keysFrom, keysIn}
 use Rattle.der.proofs.Keys.{first-key}
 use Rattle.der.proofs.Loops.{loop-end, loop-turn}
 use Rattle.der.specs.declared.Found.{Found}
 use Rattle.der.specs.declared.Found.the-variants.{At, Nowhere}
-use Rattle.rights.specs.declared.Excess.{Excess}
-use Rattle.rights.specs.declared.Excess.the-variants.{Carried, Sourced, Listed, Unlisted}
-use Rattle.rights.specs.declared.TypeAnswer.{TypeAnswer}
-use Rattle.rights.specs.declared.TypeAnswer.the-variants as judged
-use Rattle.rights.specs.declared.Picked.{Picked}
-use Rattle.rights.specs.declared.Picked.the-variants as picked
-use Rattle.rights.specs.declared.Lister.{Lister}
-use Rattle.rights.specs.declared.Lister.the-variants.{New, Signer, Nobody}
-use Rattle.rights.specs.declared.RightsAnswer.{RightsAnswer}
-use Rattle.rights.specs.declared.RightsAnswer.the-variants as answer
+use Rattle.rights.specs.declared.decision.Excess.{Excess}
+use Rattle.rights.specs.declared.decision.Excess.the-variants.{Carried, Sourced, Listed, Unlisted}
+use Rattle.rights.specs.declared.decision.TypeAnswer.{TypeAnswer}
+use Rattle.rights.specs.declared.decision.TypeAnswer.the-variants as judged
+use Rattle.rights.specs.declared.decision.Picked.{Picked}
+use Rattle.rights.specs.declared.decision.Picked.the-variants as picked
+use Rattle.rights.specs.declared.decision.Lister.{Lister}
+use Rattle.rights.specs.declared.decision.Lister.the-variants.{New, Signer, Nobody}
+use Rattle.rights.specs.declared.decision.RightsAnswer.{RightsAnswer}
+use Rattle.rights.specs.declared.decision.RightsAnswer.the-variants as answer
 use Rattle.rights.specs.Rights.{Key, Content, source}
 use Rattle.rights.specs.Decision.{oid, integer, fresh, keys, findSome, unlisted, valueOutside, attributeOutside, pairOutside, roleOutside, onePair}
 use Rattle.rights.specs.Decision.{entryOutside, typeOutside, listedTypes, unlistedType, outside, within}
 use Rattle.rights.specs.Constraints.{constraintsRights}
-use Rattle.rights.specs.Places.{constraintFor, valuesUnder, anyEntry, governingEntry, rightsEntry, holding}
-use Rattle.rights.specs.RightsAnswer.{excessContent, judgedContent, pickedContent, listedType, contentOf}
+use Rattle.rights.specs.contract.Places.{constraintFor, valuesUnder, anyEntry, governingEntry, rightsEntry, holding}
+use Rattle.rights.specs.contract.RightsAnswer.{excessContent, judgedContent, pickedContent, listedType, contentOf}
 use Rattle.rights.proofs.Places.{values-under, governing-entry, any-entry, listed-types, constrained-types}
 use Rattle.rights.proofs.Types.{governing-unlisted, neither-lists, unlistedType-new}
 

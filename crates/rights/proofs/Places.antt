@@ -16,7 +16,7 @@ use Rattle.der.specs.Keys.{typeOf, keyOf, keysIn, firstWith}
 use Rattle.rights.specs.Rights.{Key, Rights, anyContentType, lookup, governing}
 use Rattle.rights.specs.Decision.{keys, listedTypes}
 use Rattle.rights.specs.Constraints.{attrConstraint, contentTypeConstraint, constraintsRights}
-use Rattle.rights.specs.Places.{constraintFor, valuesUnder, entryFor, orThen, anyEntry, governingEntry, rightsEntry, holding}
+use Rattle.rights.specs.contract.Places.{constraintFor, valuesUnder, entryFor, orThen, anyEntry, governingEntry, rightsEntry, holding}
 
 -- what is made of elements by their types: the first of a type holds what stands under the type, and the types are the keys
 module _ {A : Type 0} (v : List ℕ) (f : Element → Key × A) (typed : (e : Element) → f e .0 ≡ typeOf v e) where

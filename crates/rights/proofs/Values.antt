@@ -18,7 +18,7 @@ use Rattle.der.specs.Keys.{keyOf}
 use Rattle.rights.specs.Rights.{Key}
 use Rattle.rights.specs.Decision.{oid, integer, fresh, keys, listedTypes}
 use Rattle.rights.specs.Constraints.{constraintsRights}
-use Rattle.rights.specs.Places.{valuesUnder}
+use Rattle.rights.specs.contract.Places.{valuesUnder}
 use Rattle.rights.proofs.Fresh.{fresh-more, fresh-found, oid-differ, integer-differ}
 use Rattle.rights.proofs.Places.{listed-types, listed-by-signer}
 

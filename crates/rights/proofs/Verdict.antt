@@ -4,14 +4,14 @@ use mathlib.Core.Bool.{true, false}
 use mathlib.Core.List.{List}
 use mathlib.Core.Logic.{_↔_}
 use mathlib.Core.Path.{_≡_, refl, sym, ap, _∙_}
-use Rattle.rights.specs.declared.Excess.{Excess}
-use Rattle.rights.specs.declared.Lister.{Lister}
-use Rattle.rights.specs.declared.RightsAnswer.{RightsAnswer}
-use Rattle.rights.specs.declared.RightsAnswer.the-variants as answer
+use Rattle.rights.specs.declared.decision.Excess.{Excess}
+use Rattle.rights.specs.declared.decision.Lister.{Lister}
+use Rattle.rights.specs.declared.decision.RightsAnswer.{RightsAnswer}
+use Rattle.rights.specs.declared.decision.RightsAnswer.the-variants as answer
 use Rattle.rights.specs.Rights.{Content, authorises, Within}
 use Rattle.rights.specs.Decision.{outside}
 use Rattle.rights.specs.Constraints.{constraintsRights}
-use Rattle.rights.specs.RightsAnswer.{excessContent, listedType, contentOf}
+use Rattle.rights.specs.contract.RightsAnswer.{excessContent, listedType, contentOf}
 use Rattle.rights.proofs.Within.{outside-none, outside-some, not-both}
 
 module _ (signer new : List ℕ) where

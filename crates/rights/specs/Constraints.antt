@@ -7,7 +7,7 @@ use Rattle.der.specs.Element.{root, encoding, inside, field}
 use Rattle.der.specs.Keys.{typeOf}
 use Rattle.rights.specs.Rights.{Key, Entry, Rights}
 
--- an AttrConstraint: its attribute type and its values, each the whole element
+-- an AttrConstraint: its attribute type and its values, each "the whole DER element"
 unfoldable pub attrConstraint : List ℕ → Element → Key × List Key
 attrConstraint v e = (typeOf v e, map (encoding v) (inside v (field 0x31 v e)))
 

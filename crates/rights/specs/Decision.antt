@@ -1,4 +1,4 @@
--- The decision of Within. It yields a content that lies outside, if there is one.
+-- The decision of Within (specs/Rights). It yields a content that lies outside, if there is one.
 use Prim.Native.Nat.{ℕ, zero, suc}
 use mathlib.Core.Bool.{Bool, true, false}
 use mathlib.Core.List.{List, [], _∷_, _++_, map}
@@ -92,6 +92,6 @@ unlistedType signer new = oid (fresh oid (listedTypes signer new))
 unfoldable pub outside : Rights → Rights → Option Content
 outside signer new = findSome (typeOutside signer new) (unlistedType signer new ∷ listedTypes signer new)
 
--- 01's term, decided
+-- 01's term within, decided: it is true exactly where `Within` holds (proofs/Within, `within-iff`)
 unfoldable pub within : Rights → Rights → Bool
 within signer new = elim (outside signer new) [ none ↦ true | some content ↦ false ]

@@ -3,6 +3,5 @@ pub mod Decision
 pub mod Examples
 pub mod Constraints
 pub mod Attributes
-pub mod Places
-pub mod RightsAnswer
 pub mod Valid
+pub mod contract

@@ -34,7 +34,7 @@ pub record Entry : Type 0 where
 abbrev pub Rights : Type 0
 Rights = List (Key × Entry)
 
--- 1.2.840.113549.1.9.16.1.0
+-- 01, Rights: anyContentType, 1.2.840.113549.1.9.16.1.0
 unfoldable pub anyContentType : Key
 anyContentType = 0x2A ∷ 0x86 ∷ 0x48 ∷ 0x86 ∷ 0xF7 ∷ 0x0D ∷ 0x01 ∷ 0x09 ∷ 0x10 ∷ 0x01 ∷ 0x00 ∷ []
 

@@ -13,7 +13,7 @@ use Rattle.rights.specs.Attributes.{pairs}
 use Rattle.rights.proofs.Within.{within-everything, apex}
 use Rattle.anchor.specs.Info.{constraintsValue, rightsOf}
 use Rattle.anchor.proofs.Rights.{value-rights}
-use Rattle.rights_cases.specs.Cases.{rightsIf, roleOf, contentIn}
+use Rattle.rights_cases.specs.contract.Cases.{rightsIf, contentRole, contentIn}
 
 module _ (a : ℕ) (t : List ℕ) where
   module _ (is : a ≡ 1) where
@@ -37,10 +37,10 @@ module _ (a : ℕ) (t : List ℕ) where
     module _ (role : ℕ) (k s : List ℕ) {e : Element} (q : e ≡ root s) {r : Bool} where
       pub other-carries : role ≡ 1 → r ≡ authorises (constraintsRights v) (record { type = k; role = carrier; attributes = pairs s e })
           → r ≡ authorises (rightsIf a t) (contentIn role k s)
-      unfolding contentIn roleOf
-      other-carries is j = rw (← own-rights, eq-eqb role 1 is, roleOf, ← q) j
+      unfolding contentIn contentRole
+      other-carries is j = rw (← own-rights, eq-eqb role 1 is, contentRole, ← q) j
 
       pub other-sources : (role ≡ 1 → ⊥) → r ≡ authorises (constraintsRights v) (record { type = k; role = source; attributes = pairs s e })
           → r ≡ authorises (rightsIf a t) (contentIn role k s)
-      unfolding contentIn roleOf
-      other-sources no-is j = rw (← own-rights, ne-eqb role 1 no-is, roleOf, ← q) j
+      unfolding contentIn contentRole
+      other-sources no-is j = rw (← own-rights, ne-eqb role 1 no-is, contentRole, ← q) j

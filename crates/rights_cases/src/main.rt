@@ -5,7 +5,7 @@ ghost use lib.ListN.{length};
 ghost use Rattle.rights.specs.Rights.{authorises};
 ghost use Rattle.rights.specs.Decision.{within};
 ghost use Rattle.anchor.specs.Info.{rightsOf};
-ghost use Rattle.rights_cases.specs.Cases.{rightsIf, contentIn, frameEnd};
+ghost use Rattle.rights_cases.specs.contract.Cases.{rightsIf, contentIn, frameEnd};
 use libc::STDOUT_FILENO;
 
 // Where the frame at p ends.

@@ -1,4 +1,4 @@
--- The parts of an image (specs/Parts) are those of its store.
+-- The parts of an image (specs/contract/Parts) are those of its store.
 use Prim.Native.Nat.{ℕ, zero, suc, _+_, _-_, _<_}
 use native.Mathlib.Omega.{arith}
 use mathlib.Core.Bool.{Bool, true, false, and-eq-true-iff}
@@ -21,8 +21,8 @@ use Rattle.store.specs.Store.{Device, Anchor, Store, anchors, identifier
 use Rattle.store.specs.Image.{found, readSized, readTimes, readDevice, readAnchor, readDeviceSection, readAnchorSection, readCommunitySection}
 use Rattle.store.specs.Image.{readStore, decode, encodeName}
 use Rattle.store.specs.Records.{recordsFrom, recordsOf}
-use Rattle.store.specs.Parts.{hwTypeIn, serialPlace, serialIn, anchorPlace, anchorCount, firstRecord, recordEnd, recordAt, recordPlace}
-use Rattle.store.specs.Parts.{identifierIn, anchorIn, communityPlace, communityCount, communityOctets, namesFrom, namesSize, communitiesOf, firstFrom}
+use Rattle.store.specs.contract.Parts.{hwTypeIn, serialPlace, serialIn, anchorPlace, anchorCount, firstRecord, recordEnd, recordAt, recordPlace}
+use Rattle.store.specs.contract.Parts.{identifierIn, anchorIn, communityPlace, communityCount, communityOctets, namesFrom, namesSize, communitiesOf, firstFrom}
 use Rattle.store.proofs.Readers.{same-found, as-found, granted, passed, passes}
 use Rattle.store.proofs.Formats.{listed, communitySection}
 use Rattle.store.proofs.RoundTrip.{alone-found}

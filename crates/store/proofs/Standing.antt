@@ -11,8 +11,8 @@ use Rattle.octets.specs.Octets.{octet}
 use Rattle.octets.specs.Number.{number}
 use Rattle.store.specs.Store.{Anchor, Store, anchors}
 use Rattle.store.specs.Image.{encodeName, encodeAnchor, encodeSection, encodeDevice, encode, anchorOk, wellFormed}
-use Rattle.store.specs.Parts.{anchorPlace, firstRecord, recordEnd, recordAt, recordPlace, placeOf, infoIn, infoAt, communityPlace, communityCount}
-use Rattle.store.specs.Parts.{communityOctets, namesSize}
+use Rattle.store.specs.contract.Parts.{anchorPlace, firstRecord, recordEnd, recordAt, recordPlace, placeOf, infoIn, infoAt, communityPlace, communityCount}
+use Rattle.store.specs.contract.Parts.{communityOctets, namesSize}
 use Rattle.store.proofs.Formats.{writeDevice, rules}
 use Rattle.store.proofs.RoundTrip.{decode-encode}
 use Rattle.store.proofs.Parts.{count-of-anchors, sizes-are}

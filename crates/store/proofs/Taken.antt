@@ -11,7 +11,7 @@ use Rattle.octets.specs.Number.{number, numberFrom}
 use Rattle.store.specs.Store.{Anchor}
 use Rattle.store.specs.Image.{found, readOctets, readNumber, readSized, readTimes, readAnchor, readCommunity, presentNumber}
 use Rattle.store.specs.Records.{recordsFrom}
-use Rattle.store.specs.Parts.{recordEnd, recordPlace, infoIn, numberIn, anchorIn, namesFrom}
+use Rattle.store.specs.contract.Parts.{recordEnd, recordPlace, infoIn, numberIn, anchorIn, namesFrom}
 use Rattle.store.proofs.Readers.{same-found, granted, passed}
 use Rattle.store.proofs.Walk.{cut-take, cut-drop, drop-take, records-turn}
 

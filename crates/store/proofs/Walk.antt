@@ -1,4 +1,4 @@
--- The walk over records and names (specs/Parts): what stands at a place, and what is left after it.
+-- The walk over records and names (specs/contract/Parts): what stands at a place, and what is left after it.
 use Prim.Native.Nat.{ℕ, zero, suc, _+_, _-_, _≤_, _<_, min}
 use native.Mathlib.Omega.{arith}
 use native.Mathlib.Numerals.{add-one}
@@ -20,8 +20,8 @@ use Rattle.store.specs.declared.Position.the-variants.{At, Nothing}
 use Rattle.store.specs.Image.{presentNumber}
 use Rattle.store.specs.Records.{recordsFrom, anchorSection, recordsOf}
 use Rattle.store.specs.Signer.{signerFrom}
-use Rattle.store.specs.Parts.{anchorCount, firstRecord, recordEnd, recordAt, recordPlace, infoIn, identifierIn, numberIn}
-use Rattle.store.specs.Parts.{nameEnd, nameAt, namesFrom, namesSize, firstFrom, infosFrom}
+use Rattle.store.specs.contract.Parts.{anchorCount, firstRecord, recordEnd, recordAt, recordPlace, infoIn, identifierIn, numberIn}
+use Rattle.store.specs.contract.Parts.{nameEnd, nameAt, namesFrom, namesSize, firstFrom, infosFrom}
 
 -- k octets at place p, and what is after them
 

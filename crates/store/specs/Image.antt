@@ -36,7 +36,7 @@ module _ {A : Type 0} where
 unfoldable pub encodeDevice : Device → List ℕ
 encodeDevice d = encodeName (d .hwType) ++ encodeName (d .serial)
 
--- "Three sections in this order, each after its count, nothing behind them"
+-- "Three sections in this order, each after its count (one octet), nothing behind them"
 unfoldable pub encode : Store → List ℕ
 encode σ =
     encodeSection encodeDevice (σ .device ∷ [])
@@ -137,6 +137,7 @@ readCommunitySection = do
   communities ← provided (leb count maxCommunities) (readTimes count readCommunity)
   provided (distinct communities) (found communities)
 
+-- "Three sections in this order"
 unfoldable pub readStore : Reader Store
 readStore = do
   device ← readDeviceSection

@@ -7,7 +7,9 @@ use lib.ListN.{length}
 use lib.Dec.{ltb, eqb}
 use Rattle.octets.specs.Ascii.{ascii}
 use Rattle.octets.specs.Number.{digits}
-use Rattle.anchor.specs.Info.{hasConstraints}
+use Rattle.anchor.specs.declared.AnchorRole.{AnchorRole}
+use Rattle.anchor.specs.declared.AnchorRole.the-variants.{Apex, Management, Identity}
+use Rattle.anchor.specs.Role.{roleOf}
 use Rattle.store.specs.Store.{Anchor, Store, anchors, identifierOf}
 use Rattle.store.specs.Image.{decode}
 
@@ -35,14 +37,15 @@ numberText none = ascii "-"
 numberText (some n) = decimal n
 
 -- "role (apex, management if it has constraints, else identity)"
-unfoldable pub roleText : ℕ → Anchor → List ℕ
-roleText i a =
-    elim (eqb i 0) [ true ↦ ascii "apex" | false ↦ elim (hasConstraints (a .info)) [ true ↦ ascii "management" | false ↦ ascii "identity" ] ]
+unfoldable pub roleText : AnchorRole → List ℕ
+roleText Apex = ascii "apex"
+roleText Management = ascii "management"
+roleText Identity = ascii "identity"
 
--- "position, role, key identifier, number or -"
+-- "position, role .., key identifier, number or -"
 unfoldable pub anchorLine : ℕ → Anchor → List ℕ
 anchorLine i a =
-    decimal i ++ (blank ∷ (roleText i a ++ (blank ∷ (hex (identifierOf a) ++ (blank ∷ (numberText (a .number) ++ (newline ∷ [])))))))
+    decimal i ++ (blank ∷ (roleText (roleOf i (a .info)) ++ (blank ∷ (hex (identifierOf a) ++ (blank ∷ (numberText (a .number) ++ (newline ∷ [])))))))
 
 unfoldable pub anchorLines : ℕ → List Anchor → List ℕ
 anchorLines i [] = []
@@ -64,6 +67,6 @@ unfoldable pub listingOf : Option Store → List ℕ
 listingOf none = ascii "refused 201\n"
 listingOf (some σ) = storeText σ
 
--- "The listing program reads an image"; "A bad image prints refused 201"
+-- "The listing program reads an image"; a bad image prints "refused 201"
 unfoldable pub listing : List ℕ → List ℕ
 listing image = listingOf (decode image)

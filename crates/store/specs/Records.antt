@@ -5,7 +5,8 @@ use lib.ListN.{take, drop}
 use Rattle.octets.specs.Octets.{octet, slice}
 use Rattle.octets.specs.Number.{number}
 
--- "An anchor's record runs from its number present to the end of its TrustAnchorInfo." A record is 1 octet, 8, 2 with the length, and so many.
+-- Record is 01's term: "An anchor's record runs from its number present to the end of its TrustAnchorInfo." It is 1 octet, 8, 2
+-- with the length, and so many.
 unfoldable pub recordsFrom : ℕ → List ℕ → List (List ℕ)
 recordsFrom zero s = []
 recordsFrom (suc n) s = let k = 11 + number (slice s 9 11) in take k s ∷ recordsFrom n (drop k s)

@@ -7,7 +7,8 @@ use Rattle.octets.specs.Octets.{same, octet}
 use Rattle.store.specs.declared.FoundSigner.{FoundSigner}
 use Rattle.store.specs.declared.FoundSigner.the-variants.{At, Unverified, Unknown}
 
--- the signer's position, where an identifier and a verdict are given for each anchor; without one, whether any anchor has the identifier.
+-- the signer's position, where an identifier and a verdict are given for each anchor ("one octet per anchor, in store order"); without one, whether any anchor has
+-- the identifier: 10 or 16.
 -- It reads identifiers and verdict alone.
 unfoldable pub signerFrom : ℕ → List (List ℕ) → List ℕ → List ℕ → FoundSigner → FoundSigner
 signerFrom i [] verdict wanted missed = missed

@@ -1,6 +1,6 @@
 -- The steps of 01, After acceptance, on a store.
 use Prim.Native.Nat.{ℕ}
-use mathlib.Core.List.{List, [], _∷_, _++_}
+use mathlib.Core.List.{List}
 use mathlib.Core.Option.{none, some}
 use Rattle.store.specs.Store.{Anchor, Store}
 
@@ -10,13 +10,9 @@ withOthers l σ = record { device = σ .device; apex = σ .apex; others = l; com
 abbrev pub withCommunities : List (List ℕ) → Store → Store
 withCommunities l σ = record { device = σ .device; apex = σ .apex; others = σ .others; communities = l }
 
--- an anchor without a number, and one whose number is set
+-- "appended without a number", and an anchor whose number is set
 abbrev pub unnumbered : List ℕ → Anchor
 unnumbered info = record { number = none; info = info }
 
 abbrev pub numbered : ℕ → Anchor → Anchor
 numbered n a = record { number = some n; info = a .info }
-
--- add: "appended without a number"
-abbrev pub oneMore : List ℕ → Store → Store
-oneMore info σ = withOthers (σ .others ++ (unnumbered info ∷ [])) σ

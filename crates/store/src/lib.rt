@@ -8,9 +8,9 @@ ghost use lib.Dec.{eqb};
 ghost use Rattle.octets.specs.Octets.{octet, same, member};
 ghost use Rattle.store.specs.Records.{recordsOf};
 ghost use Rattle.store.specs.Signer.{signer};
-ghost use Rattle.store.specs.Parts.{hwTypeIn, serialIn, anchorPlace, anchorCount, firstRecord, recordEnd, recordAt, placeOf, infoIn, identifierIn};
-ghost use Rattle.store.specs.Parts.{numberIn, numberOf, communityPlace, communityCount, communityOctets, nameEnd, nameAt, namesFrom, namesSize};
-ghost use Rattle.store.specs.Parts.{isSought, firstFrom, infosFrom};
+ghost use Rattle.store.specs.contract.Parts.{hwTypeIn, serialIn, anchorPlace, anchorCount, firstRecord, recordEnd, recordAt, placeOf, infoIn, identifierIn};
+ghost use Rattle.store.specs.contract.Parts.{numberIn, numberOf, communityPlace, communityCount, communityOctets, nameEnd, nameAt, namesFrom, namesSize};
+ghost use Rattle.store.specs.contract.Parts.{isSought, firstFrom, infosFrom};
 
 // The signer among the anchors (01, Answers).
 pub enum FoundSigner {
@@ -284,10 +284,10 @@ pub fn find_signer(image: &[u8], verdict: &[u8], wanted: &[u8]) -> FoundSigner
     ensures { λ r. ⌜ r ≡ signer (map identifierIn (recordsOf (now (image .entry)))) (now (verdict .entry)) (now (wanted .entry)) ⌝ }
 {
     let mut p = first_record(image);
-    let mut left = anchor_count(image);
+    let mut rest = anchor_count(image);
     let mut i = 0;
     let mut seen = false;
-    while 0 < left {
+    while 0 < rest {
         if octets::equal(identifier_of(record_at(image, p)), wanted) {
             if is_verified(verdict, i) {
                 break;
@@ -296,9 +296,9 @@ pub fn find_signer(image: &[u8], verdict: &[u8], wanted: &[u8]) -> FoundSigner
         }
         p = record_end(image, p);
         i += 1;
-        left -= 1;
+        rest -= 1;
     }
-    if 0 < left {
+    if 0 < rest {
         return FoundSigner::At(i);
     }
     if seen {

@@ -18,12 +18,12 @@ use Rattle.der.specs.Check.{der}
 use Rattle.der.proofs.Elements.{InWindow, valid-within}
 use Rattle.der.proofs.Checks.{der-leaf}
 use Rattle.syntax.specs.Grammar.{Rule, notEmpty, obeyed, Syntax, free, end, obeys, optional, many, tagged, required, fit}
-use Rattle.syntax.specs.Whole.{derRun}
+use Rattle.syntax.specs.contract.Whole.{derRun}
 use Rattle.syntax.proofs.Each.{kept-then, kept-held}
 use Rattle.syntax.proofs.Match.{Met, met, own-window, optional-end, optional-other, optional-here, one-turn}
 use Rattle.syntax.proofs.Whole.{run-end, run-turn, run-inside}
 use Rattle.syntax.proofs.RowSteps.{alone-here, many-end, many-turn}
-use Rattle.syntax.specs.Once.{IfYes, Tagged, TypeAt, Conforms}
+use Rattle.syntax.specs.contract.Once.{IfYes, Tagged, TypeAt, Conforms}
 
 -- what a path promises where it says yes, and where it says no
 

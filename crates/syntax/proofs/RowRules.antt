@@ -11,7 +11,7 @@ use Rattle.octets.specs.Octets.{octet, same}
 use Rattle.octets.proofs.Lists.{by-test}
 use Rattle.der.proofs.Bools.{and-true, and-false}
 use Rattle.syntax.specs.Grammar.{Rule, notEmpty, sizeTo, empty, equals, integerBut, seqNumber, obeyed}
-use Rattle.syntax.specs.Rows.{ruleOf}
+use Rattle.syntax.specs.contract.Rows.{ruleOf}
 
 pub same-one : (o : List ℕ) (n : ℕ) → same o (n ∷ []) ≡ eqb (length o) 1 && eqb (octet o 0) n
 unfolding same

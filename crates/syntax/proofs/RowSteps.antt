@@ -18,7 +18,7 @@ use Rattle.syntax.specs.declared.row.Row.{Row}
 use Rattle.syntax.specs.declared.row.Field.{Field}
 use Rattle.syntax.specs.declared.row.Field.the-variants as field
 use Rattle.syntax.specs.Grammar.{obeyed, Syntax, end, optional, many, fit}
-use Rattle.syntax.specs.Rows.{ruleOf, rowSyntax, grammarOf, syntaxAt, isField, RowIs, RowOf, thenAfter, leftOut, byContents}
+use Rattle.syntax.specs.contract.Rows.{ruleOf, rowSyntax, grammarOf, syntaxAt, isField, RowIs, RowOf, thenAfter, leftOut, byContents}
 use Rattle.syntax.proofs.Match.{Met, own-window, optional-end, one-end, any-end, optional-broken, one-broken, any-broken, optional-other}
 use Rattle.syntax.proofs.Match.{optional-here, one-turn, any-turn}
 use Rattle.syntax.proofs.Rows.{first-fits, second-ends}

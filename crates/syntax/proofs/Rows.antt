@@ -10,8 +10,8 @@ use Rattle.octets.proofs.Lists.{by-test}
 use Rattle.der.specs.declared.Fit.the-variants.{Fits}
 use Rattle.syntax.specs.declared.row.Row.{Row}
 use Rattle.syntax.specs.Grammar.{free, end, fit}
-use Rattle.syntax.specs.Table.{count, rows}
-use Rattle.syntax.specs.Rows.{rowAt, rowSyntax, grown, grammarOf, RowIs}
+use Rattle.syntax.specs.contract.Table.{count, rows}
+use Rattle.syntax.specs.contract.Rows.{rowAt, rowSyntax, grown, grammarOf, RowIs}
 
 -- a test at each number below n, and what it shows at one of them
 unfoldable pub everyBelow : (ℕ → Bool) → ℕ → Bool

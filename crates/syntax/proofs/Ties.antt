@@ -1,4 +1,4 @@
--- Made by tools/table.py from specs/Asn.antt and specs/Forms.antt: change those, not this file.
+-- Made by tools/table.py from specs/Asn.antt and specs/contract/Forms.antt: change those, not this file.
 -- Each named type, and each form, is what its row stands for. A stale table fails here.
 use Prim.Native.Nat.{ℕ}
 use mathlib.Core.List.{List, [], _∷_, map}
@@ -9,28 +9,26 @@ use Rattle.syntax.specs.declared.Form.{Form}
 use Rattle.syntax.specs.declared.Form.the-variants as form
 use Rattle.syntax.specs.declared.AttributeForm.{AttributeForm}
 use Rattle.syntax.specs.declared.AttributeForm.the-variants as attribute
-use Rattle.syntax.specs.Asn.{id-signedData, AlgorithmIdentifier, SubjectPublicKeyInfo, Extension, Extensions, ContentInfo, SignedData}
-use Rattle.syntax.specs.Asn.{EncapsulatedContentInfo, SignerInfo, OneSignerInfo, TrustAnchorInfo, StoredTrustAnchorInfo, TrustAnchorChoice}
-use Rattle.syntax.specs.Asn.{CommunityIdentifierList}
-use Rattle.syntax.specs.Asn.{HardwareSerialEntry, HardwareModules, TargetIdentifier, TAMPMsgRef, TAMPStatusQuery, TrustAnchorChangeInfo}
-use Rattle.syntax.specs.Asn.{TrustAnchorChangeInfoChoice}
-use Rattle.syntax.specs.Asn.{TrustAnchorUpdate, TAMPSequenceNumber, TAMPSequenceNumbers, TAMPUpdate, CommunityUpdates, TAMPCommunityUpdate}
-use Rattle.syntax.specs.Asn.{SequenceNumberAdjust}
-use Rattle.syntax.specs.Asn.{AttrConstraint, AttrConstraintList, ContentTypeConstraint, CMSContentConstraints}
+use Rattle.syntax.specs.Asn.{id-signedData, AlgorithmIdentifier, SubjectPublicKeyInfo, Extension, Extensions, ContentInfo}
+use Rattle.syntax.specs.Asn.{SignedData, EncapsulatedContentInfo, SignerInfo, OneSignerInfo, TrustAnchorInfo, StoredTrustAnchorInfo}
+use Rattle.syntax.specs.Asn.{TrustAnchorChoice, CommunityIdentifierList, HardwareSerialEntry, HardwareModules, TargetIdentifier, TAMPMsgRef}
+use Rattle.syntax.specs.Asn.{TAMPStatusQuery, TrustAnchorChangeInfo, TrustAnchorChangeInfoChoice, TrustAnchorUpdate, TAMPSequenceNumber, TAMPSequenceNumbers}
+use Rattle.syntax.specs.Asn.{TAMPUpdate, CommunityUpdates, TAMPCommunityUpdate, SequenceNumberAdjust, AttrConstraint, AttrConstraintList}
+use Rattle.syntax.specs.Asn.{ContentTypeConstraint, CMSContentConstraints, OneSignedData}
 use Rattle.syntax.specs.Types.{syntaxOf}
-use Rattle.syntax.specs.Forms.{formSyntax, attributeSyntax}
-use Rattle.syntax.specs.Table.{rows, messageRow, formRow, attributeRow}
-use Rattle.syntax.specs.Rows.{ruleOf, rowSyntax, grown, grammarOf}
+use Rattle.syntax.specs.contract.Forms.{formSyntax, attributeSyntax}
+use Rattle.syntax.specs.contract.Table.{rows, messageRow, formRow, attributeRow}
+use Rattle.syntax.specs.contract.Rows.{ruleOf, rowSyntax, grown, grammarOf}
 
 types-are : (o : List ℕ) → map (grammarOf o)
-    (3 ∷ 5 ∷ 9 ∷ 12 ∷ 16 ∷ 28 ∷ 30 ∷ 37 ∷ 38 ∷ 48 ∷ 49 ∷ 52 ∷ 54 ∷ 59 ∷ 63 ∷ 71 ∷ 74 ∷ 80 ∷ 85 ∷ 87 ∷ 92 ∷ 93 ∷ 96 ∷ 104 ∷ 107 ∷ 112 ∷ 114 ∷ 117 ∷ 120 ∷ 123 ∷ 127 ∷ [])
+    (3 ∷ 5 ∷ 9 ∷ 12 ∷ 16 ∷ 28 ∷ 30 ∷ 37 ∷ 38 ∷ 48 ∷ 49 ∷ 52 ∷ 54 ∷ 59 ∷ 63 ∷ 71 ∷ 74 ∷ 80 ∷ 85 ∷ 87 ∷ 92 ∷ 93 ∷ 96 ∷ 104 ∷ 107 ∷ 112 ∷ 114 ∷ 117 ∷ 120 ∷ 123 ∷ 127 ∷ 128 ∷ [])
     ≡
     AlgorithmIdentifier ∷ SubjectPublicKeyInfo ∷ Extension ∷ Extensions ∷ ContentInfo ∷ SignedData
     ∷ EncapsulatedContentInfo ∷ SignerInfo ∷ OneSignerInfo ∷ TrustAnchorInfo ∷ StoredTrustAnchorInfo ∷ TrustAnchorChoice
     ∷ CommunityIdentifierList ∷ HardwareSerialEntry ∷ HardwareModules ∷ TargetIdentifier ∷ TAMPMsgRef ∷ TAMPStatusQuery
     ∷ TrustAnchorChangeInfo ∷ TrustAnchorChangeInfoChoice ∷ TrustAnchorUpdate ∷ TAMPSequenceNumber ∷ TAMPSequenceNumbers ∷ TAMPUpdate
     ∷ CommunityUpdates ∷ TAMPCommunityUpdate ∷ SequenceNumberAdjust ∷ AttrConstraint ∷ AttrConstraintList ∷ ContentTypeConstraint
-    ∷ CMSContentConstraints
+    ∷ CMSContentConstraints ∷ OneSignedData
     ∷ []
 unfolding rows ruleOf rowSyntax grown
 types-are o = refl

@@ -18,9 +18,9 @@ use Rattle.syntax.specs.declared.TampType.{TampType}
 use Rattle.syntax.specs.declared.TampType.the-variants.{StatusQuery, Update, CommunityUpdate, SeqNumAdjust}
 use Rattle.syntax.specs.declared.Recognised.the-variants.{Tamp, Unknown}
 use Rattle.syntax.specs.Types.{typeOid, syntaxOf, tampTypes, rowOf, recognised}
-use Rattle.syntax.specs.TypeTable.{typeTable, typeRows, typeOctets, typeAt}
-use Rattle.syntax.specs.Table.{messageRow}
-use Rattle.syntax.specs.Rows.{grammarOf}
+use Rattle.syntax.specs.contract.TypeTable.{typeTable, typeRows, typeOctets, typeAt}
+use Rattle.syntax.specs.contract.Table.{messageRow}
+use Rattle.syntax.specs.contract.Rows.{grammarOf}
 use Rattle.syntax.proofs.Rows.{everyBelow, every-below}
 use Rattle.syntax.proofs.Ties.{message-is}
 

@@ -21,8 +21,8 @@ use Rattle.syntax.specs.declared.row.Row.{Row}
 use Rattle.syntax.specs.declared.row.Field.{Field}
 use Rattle.syntax.specs.declared.row.Field.the-variants as field
 use Rattle.syntax.specs.Grammar.{obeyed, Syntax, many, fit}
-use Rattle.syntax.specs.Rows.{ruleOf, grammarOf, syntaxAt, RowIs, RowOf, thenAfter, leftOut, byContents}
-use Rattle.syntax.specs.Whole.{derRun, conformsIn, afterIf, thenConforms, entered}
+use Rattle.syntax.specs.contract.Rows.{ruleOf, grammarOf, syntaxAt, RowIs, RowOf, thenAfter, leftOut, byContents}
+use Rattle.syntax.specs.contract.Whole.{derRun, conformsIn, afterIf, thenConforms, entered}
 use Rattle.syntax.proofs.Each.{kept-then, kept-held, kept-turn}
 use Rattle.syntax.proofs.Window.{again}
 use Rattle.syntax.proofs.Match.{Met}

@@ -1,9 +1,16 @@
--- The ASN.1 modules as syntax, type by type under the RFCs' names, to be held against RFC 5652 (section 5), RFC 5914 (appendix A), RFC 5280 (appendix A), RFC 5934 (appendix A.1) and
--- RFC 6010 (appendix A.1). A type's name stands for the contents of its element, and the place that has the type gives the tag. DEFAULT is an optional field that refuses the default.
+-- The ASN.1 modules as syntax, type by type under the RFCs' names, to be held against RFC 5652 (section 5), RFC 5914 (appendix A), RFC 5280 (appendix A),
+-- RFC 5934 (appendix A.1) and RFC 6010 (appendix A.1). What a name stands for:
+-- - the contents of the type's element, for most types: the place that has the type gives the tag;
+-- - a window of one element, for a CHOICE, whose alternatives have the tags: SignerIdentifier, TrustAnchorChoice, HardwareSerialEntry, TargetIdentifier,
+--   TrustAnchorChangeInfoChoice and TrustAnchorUpdate;
+-- - a window with the whole element, where a reader is given such: ContentInfo, ContentInfoSignedData, OneSignedData, OneSignerInfo, StoredTrustAnchorInfo,
+--   the four messages (TAMPStatusQuery, TAMPUpdate, TAMPCommunityUpdate, SequenceNumberAdjust) and CMSContentConstraints.
+-- The modules that give context tags have IMPLICIT TAGS: such a tag takes the place of the type's own. A tagged CHOICE or ANY is explicit all the same, and
+-- so is what says EXPLICIT: the element of the type stands inside the tag's. DEFAULT is an optional field that refuses the default.
 use Prim.Native.Nat.{ℕ}
 use mathlib.Core.List.{List, [], _∷_}
 use Rattle.der.specs.Oid.{oid}
-use Rattle.syntax.specs.Grammar.{Syntax, free, end, obeys, optional, one, anyOptional, many, required, tagged}
+use Rattle.syntax.specs.Grammar.{Syntax, free, end, obeys, optional, one, anyOptional, many, required, tagged, alternative, noOther}
 use Rattle.syntax.specs.Grammar.{notEmpty, sizeTo, empty, equals, integerBut, seqNumber}
 
 -- Universal types: their contents are checked by status 1
@@ -15,6 +22,9 @@ OCTET-STRING = free
 
 abbrev UTF8String : Syntax
 UTF8String = free
+
+abbrev IA5String : Syntax
+IA5String = free
 
 abbrev OBJECT-IDENTIFIER : Syntax
 OBJECT-IDENTIFIER = free
@@ -41,6 +51,7 @@ abbrev pub SubjectPublicKeyInfo : Syntax
 SubjectPublicKeyInfo = required 0x30 AlgorithmIdentifier (required 0x03 BIT-STRING end)
 
 -- Extension ::= SEQUENCE { extnID OBJECT IDENTIFIER, critical BOOLEAN DEFAULT FALSE, extnValue OCTET STRING }
+-- 01, status 36: extension values are not looked into; 01, DER: "default values omitted"
 abbrev pub Extension : Syntax
 Extension = required 0x06 OBJECT-IDENTIFIER (optional 0x01 (value 0xFF) (required 0x04 OCTET-STRING end))
 
@@ -80,14 +91,18 @@ SignedData =
 abbrev pub EncapsulatedContentInfo : Syntax
 EncapsulatedContentInfo = required 0x06 OBJECT-IDENTIFIER (optional 0xA0 (required 0x04 OCTET-STRING end) end)
 
+-- SignerIdentifier ::= CHOICE { issuerAndSerialNumber IssuerAndSerialNumber, subjectKeyIdentifier [0] SubjectKeyIdentifier }
+-- 01, status 6: "and a subjectKeyIdentifier": the other alternative may not stand there
+abbrev SignerIdentifier : Syntax
+SignerIdentifier = alternative 0x80 OCTET-STRING noOther
+
 -- 01, status 6: version 3 with the fields of RFC 5652 (attributes not looked into) and a subjectKeyIdentifier
 -- SignerInfo ::= SEQUENCE { version CMSVersion, sid SignerIdentifier, digestAlgorithm DigestAlgorithmIdentifier, signedAttrs [0] IMPLICIT SignedAttributes OPTIONAL,
 --     signatureAlgorithm SignatureAlgorithmIdentifier, signature SignatureValue, unsignedAttrs [1] IMPLICIT UnsignedAttributes OPTIONAL }
--- SignerIdentifier ::= CHOICE { issuerAndSerialNumber IssuerAndSerialNumber, subjectKeyIdentifier [0] SubjectKeyIdentifier }
 abbrev pub SignerInfo : Syntax
 SignerInfo =
     required 0x02 (value 3)
-    (required 0x80 OCTET-STRING
+    (one SignerIdentifier
     (required 0x30 AlgorithmIdentifier
     (optional 0xA0 NOT-LOOKED-INTO
     (required 0x30 AlgorithmIdentifier
@@ -104,11 +119,22 @@ OneSignerInfo = required 0x30 SignerInfo end
 abbrev pub Attribute : Syntax → Syntax
 Attribute one-value = required 0x06 OBJECT-IDENTIFIER (required 0x31 (one one-value end) end)
 
+-- that value: of content-type the OID o (RFC 5652, 11.1; 01, status 7: "content-type unequal" where it is another), of message-digest an OCTET STRING (11.2),
+-- of any other attribute whatever stands there
+abbrev pub contentTypeValue : List ℕ → Syntax
+contentTypeValue o = tagged 0x06 (obeys (equals o) free)
+
+abbrev pub messageDigestValue : Syntax
+messageDigestValue = tagged 0x04 OCTET-STRING
+
+abbrev pub otherValue : Syntax
+otherValue = free
+
 -- RFC 5914
 
 -- TrustAnchorInfo ::= SEQUENCE { version TrustAnchorInfoVersion DEFAULT v1, pubKey SubjectPublicKeyInfo, keyId KeyIdentifier, taTitle TrustAnchorTitle OPTIONAL,
 --     certPath CertPathControls OPTIONAL, exts [1] EXPLICIT Extensions OPTIONAL, taTitleLangTag [2] UTF8String OPTIONAL }
--- TrustAnchorTitle ::= UTF8String (SIZE (1..64))
+-- TrustAnchorTitle ::= UTF8String (SIZE (1..64)); 01, DER: "a title's size counts octets"
 abbrev TrustAnchorTitle : Syntax
 TrustAnchorTitle = obeys (sizeTo 64) free
 
@@ -131,10 +157,10 @@ StoredTrustAnchorInfo = required 0x30 TrustAnchorInfo end
 -- 01, status 36: certificate forms are not looked into
 abbrev pub TrustAnchorChoice : Syntax
 TrustAnchorChoice =
-    optional 0x30 NOT-LOOKED-INTO
-    (optional 0xA1 NOT-LOOKED-INTO
-    (optional 0xA2 (required 0x30 TrustAnchorInfo end)
-    end))
+    alternative 0x30 NOT-LOOKED-INTO
+    (alternative 0xA1 NOT-LOOKED-INTO
+    (alternative 0xA2 (required 0x30 TrustAnchorInfo end)
+    noOther))
 
 -- RFC 5934
 
@@ -145,7 +171,7 @@ version next = optional 0x80 (obeys (integerBut 2) free) next
 abbrev terse : Syntax → Syntax
 terse next = optional 0x81 (value 1) next
 
--- SeqNumber ::= INTEGER (0..9223372036854775807)
+-- SeqNumber ::= INTEGER (0..9223372036854775807): maxNumber
 abbrev SeqNumber : Syntax
 SeqNumber = obeys seqNumber free
 
@@ -156,10 +182,10 @@ CommunityIdentifierList = many (tagged 0x06 OBJECT-IDENTIFIER)
 -- HardwareSerialEntry ::= CHOICE { all NULL, single OCTET STRING, block SEQUENCE { low OCTET STRING, high OCTET STRING } }
 abbrev pub HardwareSerialEntry : Syntax
 HardwareSerialEntry =
-    optional 0x05 NULL
-    (optional 0x04 OCTET-STRING
-    (optional 0x30 (required 0x04 OCTET-STRING (required 0x04 OCTET-STRING end))
-    end))
+    alternative 0x05 NULL
+    (alternative 0x04 OCTET-STRING
+    (alternative 0x30 (required 0x04 OCTET-STRING (required 0x04 OCTET-STRING end))
+    noOther))
 
 -- HardwareModules ::= SEQUENCE { hwType OBJECT IDENTIFIER, hwSerialEntries SEQUENCE SIZE (1..MAX) OF HardwareSerialEntry }
 abbrev pub HardwareModules : Syntax
@@ -173,12 +199,12 @@ AnotherName = required 0x06 OBJECT-IDENTIFIER (required 0xA0 (one free end) end)
 --     otherName [5] INSTANCE OF OTHER-NAME }; HardwareModuleIdentifierList ::= SEQUENCE SIZE (1..MAX) OF HardwareModules
 abbrev pub TargetIdentifier : Syntax
 TargetIdentifier =
-    optional 0xA1 (obeys notEmpty (many (tagged 0x30 HardwareModules)))
-    (optional 0xA2 CommunityIdentifierList
-    (optional 0x83 NULL
-    (optional 0x84 free
-    (optional 0xA5 AnotherName
-    end))))
+    alternative 0xA1 (obeys notEmpty (many (tagged 0x30 HardwareModules)))
+    (alternative 0xA2 CommunityIdentifierList
+    (alternative 0x83 NULL
+    (alternative 0x84 IA5String
+    (alternative 0xA5 AnotherName
+    noOther))))
 
 -- TAMPMsgRef ::= SEQUENCE { target TargetIdentifier, seqNum SeqNumber }
 abbrev pub TAMPMsgRef : Syntax
@@ -201,15 +227,15 @@ TrustAnchorChangeInfo =
 
 -- TrustAnchorChangeInfoChoice ::= CHOICE { tbsCertChange [0] TBSCertificateChangeInfo, taChange [1] TrustAnchorChangeInfo }
 abbrev pub TrustAnchorChangeInfoChoice : Syntax
-TrustAnchorChangeInfoChoice = optional 0xA0 NOT-LOOKED-INTO (optional 0xA1 TrustAnchorChangeInfo end)
+TrustAnchorChangeInfoChoice = alternative 0xA0 NOT-LOOKED-INTO (alternative 0xA1 TrustAnchorChangeInfo noOther)
 
 -- TrustAnchorUpdate ::= CHOICE { add [1] TrustAnchorChoice, remove [2] SubjectPublicKeyInfo, change [3] EXPLICIT TrustAnchorChangeInfoChoice }
 abbrev pub TrustAnchorUpdate : Syntax
 TrustAnchorUpdate =
-    optional 0xA1 (one TrustAnchorChoice end)
-    (optional 0xA2 SubjectPublicKeyInfo
-    (optional 0xA3 (one TrustAnchorChangeInfoChoice end)
-    end))
+    alternative 0xA1 (one TrustAnchorChoice end)
+    (alternative 0xA2 SubjectPublicKeyInfo
+    (alternative 0xA3 (one TrustAnchorChangeInfoChoice end)
+    noOther))
 
 -- TAMPSequenceNumber ::= SEQUENCE { keyId KeyIdentifier, seqNumber SeqNumber }
 abbrev pub TAMPSequenceNumber : Syntax
@@ -266,3 +292,7 @@ ContentTypeConstraint =
 -- CMSContentConstraints ::= SEQUENCE SIZE (1..MAX) OF ContentTypeConstraint
 abbrev pub CMSContentConstraints : Syntax
 CMSContentConstraints = required 0x30 (obeys notEmpty (many (tagged 0x30 ContentTypeConstraint))) end
+
+-- RFC 5652: what content [0] of a ContentInfo of type signedData holds
+abbrev pub OneSignedData : Syntax
+OneSignedData = required 0x30 SignedData end

@@ -4,7 +4,9 @@ use mathlib.Core.Bool.{Bool, true, false, not, _&&_}
 use mathlib.Core.List.{List, [], _∷_}
 use lib.ListN.{length}
 use lib.Dec.{ltb, leb, eqb}
+use Rattle.octets.specs.Limits.{maxNumber}
 use Rattle.octets.specs.Octets.{octet, slice, same}
+use Rattle.octets.specs.Number.{number}
 use Rattle.der.specs.declared.Fit.{Fit}
 use Rattle.der.specs.declared.Fit.the-variants.{Fits, Breaks}
 use Rattle.der.specs.Element.{elementAt, elements}
@@ -24,7 +26,7 @@ pub data Rule : Type 0 where
   equals : (o : List ℕ) → Rule
   -- an INTEGER hidden by a context tag, other than the default n ("default values omitted")
   integerBut : (n : ℕ) → Rule
-  -- an INTEGER from 0 to 9223372036854775807
+  -- an INTEGER from 0 to maxNumber
   seqNumber : Rule
 
 unfoldable pub obeyed : Rule → List ℕ → Bool
@@ -33,7 +35,8 @@ obeyed (sizeTo n) o = leb 1 (length o) && leb (length o) n
 obeyed empty o = same o []
 obeyed (equals c) o = same o c
 obeyed (integerBut n) o = integerOk o && not (same o (n ∷ []))
-obeyed seqNumber o = leb (length o) 8 && ltb (octet o 0) 128
+-- not negative, and at most maxNumber; its shortest form (status 1) has 8 octets at most
+obeyed seqNumber o = leb (length o) 8 && (ltb (octet o 0) 128 && leb (number o) maxNumber)
 
 -- what may stand in a window
 pub data Syntax : Type 0 where
@@ -43,7 +46,7 @@ pub data Syntax : Type 0 where
   end : Syntax
   -- as g says, and as a whole by a rule
   obeys : (r : Rule) (g : Syntax) → Syntax
-  -- an element with this tag and contents as g says, if one stands there; then next. (In a window of one element a chain of these is a CHOICE.)
+  -- an element with this tag and contents as g says, if one stands there; then next
   optional : (tag : ℕ) (g next : Syntax) → Syntax
   -- one element, which by itself is a window for g; then next
   one : (g next : Syntax) → Syntax
@@ -84,3 +87,11 @@ required t g next = one (optional t g end) next
 -- in a window of one element: this tag, with contents as g says
 abbrev pub tagged : ℕ → Syntax → Syntax
 tagged t g = optional t g end
+
+-- a CHOICE, in a window of one element: an alternative by its tag, with contents as g says, or one of the others; after the last, no other.
+-- (Where the element was one of them, nothing is left in the window, and the others pass.)
+abbrev pub alternative : ℕ → Syntax → Syntax → Syntax
+alternative t g others = optional t g others
+
+abbrev pub noOther : Syntax
+noOther = end

@@ -1,9 +1,4 @@
 pub mod Grammar
 pub mod Asn
 pub mod Types
-pub mod Forms
-pub mod Table
-pub mod Rows
-pub mod TypeTable
-pub mod Whole
-pub mod Once
+pub mod contract

@@ -1,7 +1,7 @@
 // The ASN.1 of RFC 5652, 5934, 5914, 5280 and 6010 as data, and matching against it: the types that readers ask with, and the four TAMP types.
 ghost use mathlib.Core.Path.{_≡_};
 ghost use Rattle.syntax.specs.Types.{recognised};
-ghost use Rattle.syntax.specs.TypeTable.{typeTable, typeAt};
+ghost use Rattle.syntax.specs.contract.TypeTable.{typeTable, typeAt};
 
 mod matcher;
 mod row;

@@ -1,11 +1,11 @@
-// The table's rows (specs/Rows.antt), as the matcher and the walk read them: kinds, columns, rules, and the row of each form.
+// The table's rows (specs/contract/Rows.antt), as the matcher and the walk read them: kinds, columns, rules, and the row of each form.
 ghost use mathlib.Core.Path.{_≡_};
 ghost use mathlib.Core.List.{[], _∷_};
 ghost use Prim.Native.Nat.{_+_, _*_, _<_};
 ghost use Rattle.octets.specs.Octets.{octet, same};
 ghost use Rattle.syntax.specs.Grammar.{obeyed};
-ghost use Rattle.syntax.specs.Table.{count, rows, messageRow, formRow, attributeRow};
-ghost use Rattle.syntax.specs.Rows.{RowIs, ruleOf, isField, leftOut};
+ghost use Rattle.syntax.specs.contract.Table.{count, rows, messageRow, formRow, attributeRow};
+ghost use Rattle.syntax.specs.contract.Rows.{RowIs, ruleOf, isField, leftOut};
 use crate::AttributeForm;
 use crate::Form;
 use crate::TampType;
@@ -25,7 +25,7 @@ pub enum Field {
     Breaks(usize),
 }
 
-// The kinds of the table's rows (specs/Rows.antt), and its rules, counted from the first kind that is one.
+// The kinds of the table's rows (specs/contract/Rows.antt), and its rules, counted from the first kind that is one.
 pub const FREE: usize = 0;
 
 pub const END: usize = 1;

@@ -1,5 +1,5 @@
-// Made by tools/table.py from specs/Asn.antt and specs/Forms.antt: change those, not this file.
-// A row is four octets: kind, tag or argument, body's row, next row. specs/Rows.antt says what a row stands for.
+// Made by tools/table.py from specs/Asn.antt and specs/contract/Forms.antt: change those, not this file.
+// A row is four octets: kind, tag or argument, body's row, next row. specs/contract/Rows.antt says what a row stands for.
 pub type Table = [u8; 568];
 
 pub const ROWS: Table = [
@@ -643,7 +643,7 @@ pub const ROWS: Table = [
     0x30,
     126,
     1,
-    // 128: required in SignedData
+    // 128: required in OneSignedData
     3,
     0x30,
     28,

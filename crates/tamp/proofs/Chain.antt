@@ -1,12 +1,12 @@
 -- 01, Answers: the house refusals 201 to 204 in their order, and what comes after them.
-use Prim.Native.Nat.{ℕ, _≤_, _<_}
+use Prim.Native.Nat.{ℕ}
 use mathlib.Core.Bool.{Bool, true, false, not, _&&_, _||_, true≢false}
 use mathlib.Core.List.{List}
 use mathlib.Core.Option.{Option, none, some}
 use mathlib.Core.Path.{_≡_, refl, sym, ap, _∙_}
 use lib.ListN.{length}
 use lib.Dec.{leb, ltb, eqb}
-use borrow.Author.Tests.{not-false, ltb-false, lt-ltb, le-ltb}
+use borrow.Author.Tests.{not-false, ltb-false}
 use Rattle.octets.specs.declared.Status.{Status}
 use Rattle.octets.specs.Status.{success, badImage, badVerdict, smallBuffer, longMessage}
 use Rattle.octets.specs.Limits.{replyRoom, imageRoom, maxMessage}
@@ -17,21 +17,14 @@ use Rattle.octets.proofs.First.{first-row, row-if, row-passes}
 use Rattle.store.specs.Store.{Store}
 use Rattle.store.specs.Image.{decode}
 use Rattle.store.proofs.Parts.{count-of-anchors}
-use Rattle.image.specs.Check.{isGiven, isImage}
+use Rattle.image.specs.contract.Check.{isGiven, isImage}
 use Rattle.protocol.specs.Acceptance.{judgement}
 use Rattle.protocol.specs.Call.{Outcome, refused, row-202, row-203, row-204, answerOf, guarded, callOn, callOf, call}
 use Rattle.tamp.specs.declared.Answer.{Answer}
-use Rattle.tamp.specs.Left.{resultOf, resultFor, houseRefusal}
-use Rattle.tamp.specs.Given.{isVerdict, Rooms, Stored}
+use Rattle.tamp.specs.Left.{resultOf, resultFor, Promise, houseRefusal}
+use Rattle.store.specs.contract.Parts.{anchorCount}
+use Rattle.tamp.specs.contract.Given.{Rooms, Stored}
 use Rattle.tamp.proofs.Answers.{refused-leaves}
-
--- 203
-module _ (reply next : ℕ) where
-  pub small-reply : reply < replyRoom → true ≡ (ltb reply replyRoom || ltb next imageRoom)
-  small-reply h = rw (lt-ltb reply replyRoom h)
-
-  pub small-next : replyRoom ≤ reply → ltb next imageRoom ≡ (ltb reply replyRoom || ltb next imageRoom)
-  small-next h = rw (le-ltb reply replyRoom h)
 
 -- 201
 stored : (image : List ℕ) → isImage image ≡ true → Stored image
@@ -41,9 +34,9 @@ stored image e = go (decode image) refl e
     go none d t = absurd (true≢false (sym t ∙ rw d))
     go (some σ) d t = record { store = σ; decodes = d }
 
--- the call's promise, at each of its ways out
-abbrev pub Promise : List ℕ → List ℕ → List ℕ → List ℕ → List ℕ → Answer → List ℕ → List ℕ → Type 0
-Promise s image verdict reply next r reply′ next′ = resultOf r reply′ next′ ≡ resultFor (call s image verdict (length reply) (length next)) reply next
+-- 202, by the image's count of anchors
+abbrev isVerdict : List ℕ → List ℕ → Bool
+isVerdict image verdict = eqb (length verdict) (anchorCount image) && allOf (λ v. leb v 1) verdict
 
 module _ (s image verdict reply next : List ℕ) where
   -- what comes after 204, by the store of the image

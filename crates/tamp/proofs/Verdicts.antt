@@ -1,16 +1,14 @@
--- 202: the verdict, octet by octet and by its length.
+-- 202: the verdict, octet by octet.
 use Prim.Native.Nat.{ℕ, _+_, _≤_, _<_}
 use native.Mathlib.Numerals.{add-one}
 use mathlib.Core.Bool.{Bool, true, false}
 use mathlib.Core.List.{List}
-use mathlib.Core.Path.{_≡_, sym, _∙_}
+use mathlib.Core.Path.{_≡_}
 use lib.ListN.{length, getD, drop, drop-of-length-le}
 use lib.Seq.{drop-cons}
 use lib.Dec.{leb}
-use borrow.Author.Tests.{eq-eqb, ne-eqb, le-leb, lt-leb}
+use borrow.Author.Tests.{le-leb, lt-leb}
 use Rattle.octets.specs.Lists.{allOf}
-use Rattle.store.specs.Parts.{anchorCount}
-use Rattle.tamp.specs.Given.{isVerdict}
 
 -- no octet is above 1
 abbrev pub binary : List ℕ → Bool
@@ -28,14 +26,3 @@ module _ (v : List ℕ) (i : ℕ) where
   pub binary-break : i < length v → 1 < getD v i 0 → binary (drop i v) ≡ false
   unfolding allOf
   binary-break h n = rw (drop-cons v i 0 h, lt-leb _ _ n)
-
-module _ (image verdict : List ℕ) {n : ℕ} (e : n ≡ anchorCount image) where
-  pub verdict-length : (length verdict ≡ n → ⊥) → false ≡ isVerdict image verdict
-  verdict-length h =
-      let z : length verdict ≡ anchorCount image → ⊥ = λ f. h (f ∙ sym e) in
-      rw (ne-eqb (length verdict) (anchorCount image) z)
-
-  pub verdict-octets : length verdict ≡ n → {b : Bool} → b ≡ binary verdict → b ≡ isVerdict image verdict
-  verdict-octets h f =
-      let z : length verdict ≡ anchorCount image = h ∙ e in
-      f ∙ rw (eq-eqb (length verdict) (anchorCount image) z)

@@ -1,15 +1,10 @@
 -- What a call returns and leaves in the two lent buffers: by the code, and by the rule book.
 use Prim.Native.Nat.{ℕ}
 use mathlib.Core.List.{List}
-use mathlib.Core.Option.{some}
 use mathlib.Core.Path.{_≡_}
 use lib.ListN.{length}
 use Rattle.octets.specs.declared.Status.{Status}
-use Rattle.store.specs.Store.{Store}
-use Rattle.store.specs.Image.{encode, decode}
-use Rattle.message.specs.declared.Request.{Request}
-use Rattle.protocol.specs.Effect.{effect}
-use Rattle.protocol.specs.Call.{Outcome, answered, guarded, call, outcomeNumber, replyOf, nextOf, replyBuffer, nextBuffer}
+use Rattle.protocol.specs.Call.{Outcome, call, outcomeNumber, replyOf, nextOf, replyBuffer, nextBuffer}
 use Rattle.tamp.specs.declared.Answer.{Answer}
 
 -- the number, both lengths, and every octet of both buffers
@@ -35,7 +30,8 @@ resultFor o reply next =
       next = nextBuffer o next;
     }
 
--- the promise of `tamp_call`, here and in its source: number, both lengths and every octet of both lent buffers are what the rule book's call leaves
+-- Demand 1, the promise of `tamp_call`, here and in its source: whatever message, image, verdict and rooms are given, number, both lengths and every octet of both
+-- lent buffers are what the rule book's call leaves
 abbrev pub Promise : List ℕ → List ℕ → List ℕ → List ℕ → List ℕ → Answer → List ℕ → List ℕ → Type 0
 Promise message image verdict reply next r reply′ next′ =
     resultOf r reply′ next′ ≡ resultFor (call message image verdict (length reply) (length next)) reply next
@@ -46,14 +42,3 @@ houseRefusal status = record { number = status .number; «reply_len» = 0; «nex
 
 abbrev pub answer : Status → ℕ → ℕ → Answer
 answer status reply next = record { number = status .number; «reply_len» = reply; «next_len» = next }
-
--- the code answers with a status, a reply and a next store, unless the reply is too long (205)
-abbrev pub AnswersWith : Status → List ℕ → List ℕ → Answer → List ℕ → List ℕ → List ℕ → List ℕ → Type 0
-AnswersWith status said store r reply next reply′ next′ = resultOf r reply′ next′ ≡ resultFor (guarded (answered status said store)) reply next
-
--- .. to request q of the anchor at position i: by its effect on the store of the image
-abbrev pub AnswersTo : List ℕ → Request → ℕ → List ℕ → Answer → List ℕ → List ℕ → List ℕ → List ℕ → Type 0
-AnswersTo s q i image r reply next reply′ next′ =
-    (σ : Store) → decode image ≡ some σ →
-    let e = effect s q i σ in
-    AnswersWith (e .status) (e .reply) (encode (e .store)) r reply next reply′ next′

@@ -1,30 +1,26 @@
 // The call (01, Answers): from message, image and verdict to reply and next store.
 ghost use mathlib.Core.Path.{_≡_};
-ghost use mathlib.Core.Bool.{true, _||_};
-ghost use mathlib.Core.List.{map};
+ghost use mathlib.Core.Bool.{_&&_, _||_};
+ghost use mathlib.Core.List.{List};
 ghost use mathlib.Core.Option.{some};
-ghost use Prim.Native.Nat.{_≤_, _<_};
+ghost use Prim.Native.Nat.{ℕ, _≤_};
 ghost use lib.ListN.{length};
-ghost use lib.Dec.{leb, ltb};
-ghost use Rattle.octets.specs.Limits.{imageRoom, replyRoom};
+ghost use lib.Dec.{leb, ltb, eqb};
+ghost use Rattle.octets.specs.Limits.{imageRoom, replyRoom, maxMessage, maxUpdates};
 ghost use Rattle.octets.specs.Lists.{allOf};
-ghost use Rattle.octets.specs.Octets.{placed};
-ghost use Rattle.octets.specs.Status.{success};
-ghost use Rattle.der.specs.Element.{encoding as encodingOf, contents as contentsOf};
-ghost use Rattle.syntax.specs.declared.TampType.the-variants.{StatusQuery, Update, CommunityUpdate, SeqNumAdjust};
+ghost use Rattle.octets.specs.declared.Status.{Status};
 ghost use Rattle.store.specs.Store.{Store};
 ghost use Rattle.store.specs.Image.{decode};
-ghost use Rattle.reply.specs.Replies.{tampError, updateConfirm};
-ghost use Rattle.reply.specs.Parts.{statusNumbered};
-ghost use Rattle.protocol.specs.Acceptance.{judgement};
+ghost use Rattle.store.specs.contract.Parts.{anchorCount};
 ghost use Rattle.protocol.specs.Call.{answerOf, guarded, refusalReply};
-ghost use Rattle.tamp.specs.Left.{resultOf, resultFor, Promise, houseRefusal as refusalOf, answer as answerWith, AnswersWith, AnswersTo};
-ghost use Rattle.tamp.specs.Given.{isVerdict, Rooms, Stored, Signed, WritesNumber};
-use der::Element;
+ghost use Rattle.tamp.specs.Left.{resultOf, resultFor, Promise, houseRefusal as refusalOf, answer as answerWith};
+ghost use Rattle.tamp.specs.contract.Given.{Rooms, Stored, Known, judgementOf, Does};
+ghost use Rattle.tamp.specs.contract.Answers.{requestReply, replyWith, Sizes, Put};
+use accept::Acceptance;
+use apply::Done;
 use envelope::Refusal;
 use message::Request;
 use octets::Status;
-use protocol::Judgement;
 use syntax::TampType;
 
 // What the call returns: the number, and how much was written of the reply and of the next store.
@@ -37,7 +33,7 @@ pub struct Answer {
 
 impl Answer {
     // A house refusal: both lengths 0, nothing written.
-    pub fn refusal(status: Status) -> Answer
+    fn refusal(status: Status) -> Answer
         ensures { λ r. ⌜ r ≡ refusalOf status ⌝ }
     {
         Answer {
@@ -48,7 +44,7 @@ impl Answer {
     }
 
     // An answer with a TAMP status.
-    pub fn reply(status: Status, reply: usize, next: usize) -> Answer
+    fn reply(status: Status, reply: usize, next: usize) -> Answer
         ensures { λ r. ⌜ r ≡ answerWith status reply next ⌝ }
     {
         Answer {
@@ -75,291 +71,164 @@ fn is_binary(verdict: &[u8]) -> bool
 
 // 202: the verdict has an octet for each anchor, 0 or 1.
 fn is_verdict(image: &[u8], verdict: &[u8]) -> bool
-    ensures { λ r. ⌜ r ≡ isVerdict (now (image .entry)) (now (verdict .entry)) ⌝ }
+    ensures { λ r. ⌜ r ≡ eqb (length (now (verdict .entry))) (anchorCount (now (image .entry))) && allOf (λ v. leb v 1) (now (verdict .entry)) ⌝ }
 {
-    if verdict.len() != store::anchor_count(image) {
-        return false;
-    }
-    is_binary(verdict)
+    (verdict.len() == store::anchor_count(image)) & is_binary(verdict)
 }
 
 // 203: the reply buffer is under 10,240 octets or the next store buffer under 33,717.
 fn is_small(reply: usize, next: usize) -> bool
     ensures { λ r. ⌜ r ≡ (ltb reply replyRoom || ltb next imageRoom) ⌝ }
 {
-    if reply < octets::REPLY_ROOM {
-        return true;
-    }
-    next < octets::IMAGE_ROOM
+    (reply < octets::REPLY_ROOM) | (next < octets::IMAGE_ROOM)
 }
 
-// Writes the next store, after a reply of n octets.
-fn finish(status: Status, n: usize, store: &[u8], next: &mut [u8]) -> Answer
-    requires { ⌜ length (now store) ≤ length (now next) ⌝ }
-    ensures { λ r. ⌜ (r ≡ answerWith status n (length (now (store .entry))))
-        × (now (next .exit) ≡ placed (now (next .entry)) 0 (now (store .entry))) ⌝ }
-{
-    octets::copy_to(next, 0, store);
-    Answer::reply(status, n, store.len())
-}
-
-// A TAMP Error about msgType, with msgRef where there is one.
-fn error(
-    s: &[u8],
-    about: Element,
-    status: Status,
-    msgref: Element,
-    store: &[u8],
-    reply: &mut [u8],
-    next: &mut [u8],
-) -> Answer
-    requires { ⌜ Rooms (now s) (now reply) (now next) × (length (now store) ≤ imageRoom) ⌝ }
-    ensures { λ r.
-        ⌜ AnswersWith
-        status
-        (tampError (contentsOf (now (s .entry)) about) status (encodingOf (now (s .entry)) msgref))
-        (now (store .entry))
-        r
-        (now (reply .entry))
-        (now (next .entry))
-        (now (reply .exit))
-        (now (next .exit)) ⌝ }
-{
-    let msgtype = der::contents(s, about);
-    let repeated = der::encoding(s, msgref);
-    if octets::REPLY_ROOM < reply::error_size(msgtype, repeated) {
-        return Answer::refusal(Status::LONG_REPLY);
-    }
-    let n = reply::put_error(reply, msgtype, status, repeated);
-    finish(status, n, store, next)
-}
-
-// "Statuses 1, 2, 3 and 4 have no reply (length 0). The rest reply with a TAMP Error". The store stays.
-fn refuse(s: &[u8], r: Refusal, image: &[u8], reply: &mut [u8], next: &mut [u8]) -> Answer
-    requires { ⌜ Rooms (now s) (now reply) (now next) × (length (now image) ≤ imageRoom) ⌝ }
-    ensures { λ a.
-        ⌜ AnswersWith
-        (r .status)
-        (refusalReply (now (s .entry)) r)
-        (now (image .entry))
-        a
-        (now (reply .entry))
-        (now (next .entry))
-        (now (reply .exit))
-        (now (next .exit)) ⌝ }
-{
-    let about = r.msgtype;
-    let status = r.status;
-    if !about.valid {
-        return finish(status, 0, image, next);
-    }
-    error(s, about, status, r.msgref, image, reply, next)
-}
-
-// "its number becomes the signer's": writes the image with it. Gives its length.
-fn renumber(s: &[u8], q: Request, i: usize, image: &[u8], next: &mut [u8]) -> usize
-    requires { ⌜ Signed (now s) q i (now image) × (imageRoom ≤ length (now next)) ⌝ }
-    ensures { λ r. ⌜ WritesNumber (now (s .entry)) q i (now (image .entry)) (now (next .entry)) r (now (next .exit)) ⌝ }
-{
-    octets::copy_to(next, 0, image);
-    let n = message::number_in(s, der::field(s, q.msgref, der::INTEGER));
-    edit::set_number(next, store::record_place(image, i), n);
-    image.len()
-}
-
-// Query: "identifiers in store order, then communities unless there are none". Numbers are no part of it: 205 is decided on the image as given.
-fn query(s: &[u8], q: Request, i: usize, image: &[u8], reply: &mut [u8], next: &mut [u8]) -> Answer
-    requires { ⌜ Rooms (now s) (now reply) (now next) × Signed (now s) q i (now image) × (q .kind ≡ StatusQuery) ⌝ }
-    ensures { λ r.
-        ⌜ AnswersTo
-        (now (s .entry))
-        q
-        i
-        (now (image .entry))
-        r
-        (now (reply .entry))
-        (now (next .entry))
-        (now (reply .exit))
-        (now (next .exit)) ⌝ }
+// How long the reply to a request is. 205 is decided by it, before anything is written; numbers are no part of a Query's response.
+fn request_size(s: &[u8], q: Request, image: &[u8]) -> usize
+    requires { ⌜ (length (now s) ≤ maxMessage) × (length (now image) ≤ imageRoom) ⌝ }
+    ensures { λ r. ⌜ ((status : Status) (codes : List ℕ) → maxUpdates ≤ length codes → r ≡ length (requestReply (now (s .entry)) q (now (image .entry)) status codes)) ⌝ }
 {
     let msgref = message::msg_ref(s, q);
-    let m = reply::terse_size(image);
-    if octets::REPLY_ROOM < reply::response_size(msgref, m) {
-        return Answer::refusal(Status::LONG_REPLY);
-    }
-    let k = renumber(s, q, i, image, next);
-    let n = reply::put_status_response(reply, msgref, m, &next[..k]);
-    Answer::reply(Status::SUCCESS, n, k)
-}
-
-// Adjust: 0.
-fn adjust(s: &[u8], q: Request, i: usize, image: &[u8], reply: &mut [u8], next: &mut [u8]) -> Answer
-    requires { ⌜ Rooms (now s) (now reply) (now next) × Signed (now s) q i (now image) × (q .kind ≡ SeqNumAdjust) ⌝ }
-    ensures { λ r.
-        ⌜ AnswersTo
-        (now (s .entry))
-        q
-        i
-        (now (image .entry))
-        r
-        (now (reply .entry))
-        (now (next .entry))
-        (now (reply .exit))
-        (now (next .exit)) ⌝ }
-{
-    let msgref = message::msg_ref(s, q);
-    if octets::REPLY_ROOM < reply::confirm_size(msgref) {
-        return Answer::refusal(Status::LONG_REPLY);
-    }
-    let n = reply::put_adjust_confirm(reply, msgref);
-    let k = renumber(s, q, i, image, next);
-    Answer::reply(Status::SUCCESS, n, k)
-}
-
-// Community Update: "call and confirm carry the code". Made on a scratch image: edits use octets after the image, and those of the next store's buffer stay.
-fn community(
-    s: &[u8],
-    q: Request,
-    i: usize,
-    image: &[u8],
-    reply: &mut [u8],
-    next: &mut [u8],
-) -> Answer
-    requires { ⌜ Rooms (now s) (now reply) (now next) × Signed (now s) q i (now image) × (q .kind ≡ CommunityUpdate) ⌝ }
-    ensures { λ r.
-        ⌜ AnswersTo
-        (now (s .entry))
-        q
-        i
-        (now (image .entry))
-        r
-        (now (reply .entry))
-        (now (next .entry))
-        (now (reply .exit))
-        (now (next .exit)) ⌝ }
-{
-    let mut work = [0u8; octets::IMAGE_ROOM];
-    let len = renumber(s, q, i, image, &mut work);
-    let done = apply::community_update(s, q, &mut work, len);
-    let end = done.len;
-    let status = done.status;
-    let msgref = message::msg_ref(s, q);
-    if octets::REPLY_ROOM < reply::confirm_size(msgref) {
-        return Answer::refusal(Status::LONG_REPLY);
-    }
-    let n = reply::put_community_confirm(reply, msgref, status);
-    finish(status, n, &work[..end], next)
-}
-
-// The confirm of an Update, a status octet for each entry.
-fn confirm<'a>(
-    s: &'a [u8],
-    q: Request,
-    codes: &'a [u8],
-    store: &[u8],
-    reply: &mut [u8],
-    next: &mut [u8],
-) -> Answer
-    requires { ⌜ Rooms (now s) (now reply) (now next) × (length (now codes) ≤ 16) × (length (now store) ≤ imageRoom) ⌝ }
-    ensures { λ r.
-        ⌜ AnswersWith
-        success
-        (updateConfirm (encodingOf (now (s .entry)) (q .msgref)) (map statusNumbered (now (codes .entry))))
-        (now (store .entry))
-        r
-        (now (reply .entry))
-        (now (next .entry))
-        (now (reply .exit))
-        (now (next .exit)) ⌝ }
-{
-    let msgref = message::msg_ref(s, q);
-    if octets::REPLY_ROOM < reply::update_size(msgref, codes.len()) {
-        return Answer::refusal(Status::LONG_REPLY);
-    }
-    let n = reply::put_update_confirm(reply, msgref, codes);
-    finish(Status::SUCCESS, n, store, next)
-}
-
-// Update: over 16 entries 17 for the message as a whole, by TAMP Error; else each entry in turn, on a scratch image, by the signer's rights in the image as given.
-fn update(s: &[u8], q: Request, i: usize, image: &[u8], reply: &mut [u8], next: &mut [u8]) -> Answer
-    requires { ⌜ Rooms (now s) (now reply) (now next) × Signed (now s) q i (now image) × (q .kind ≡ Update) ⌝ }
-    ensures { λ r.
-        ⌜ AnswersTo
-        (now (s .entry))
-        q
-        i
-        (now (image .entry))
-        r
-        (now (reply .entry))
-        (now (next .entry))
-        (now (reply .exit))
-        (now (next .exit)) ⌝ }
-{
-    let mut work = [0u8; octets::IMAGE_ROOM];
-    let len = renumber(s, q, i, image, &mut work);
-    let entry_count = message::entry_count(s, message::updates_in(s, q.body, q.msgref));
-    if octets::MAX_UPDATES < entry_count {
-        return error(
-            s,
-            q.msgtype,
-            Status::INSUFFICIENT_MEMORY,
-            q.msgref,
-            &work[..len],
-            reply,
-            next,
-        );
-    }
-    let mut codes = [0u8; octets::MAX_UPDATES];
-    let end = apply::update(s, q, image, i, &mut work, len, &mut codes);
-    confirm(s, q, &codes[..entry_count], &work[..end], reply, next)
-}
-
-// An accepted request of the anchor at position i.
-fn accepted(
-    s: &[u8],
-    q: Request,
-    i: usize,
-    image: &[u8],
-    reply: &mut [u8],
-    next: &mut [u8],
-) -> Answer
-    requires { ⌜ Rooms (now s) (now reply) (now next) × Signed (now s) q i (now image) ⌝ }
-    ensures { λ r.
-        ⌜ AnswersTo
-        (now (s .entry))
-        q
-        i
-        (now (image .entry))
-        r
-        (now (reply .entry))
-        (now (next .entry))
-        (now (reply .exit))
-        (now (next .exit)) ⌝ }
-{
     let kind = q.kind;
     match kind {
-        TampType::StatusQuery => query(s, q, i, image, reply, next),
-        TampType::Update => update(s, q, i, image, reply, next),
-        TampType::CommunityUpdate => community(s, q, i, image, reply, next),
-        TampType::SeqNumAdjust => adjust(s, q, i, image, reply, next),
+        TampType::StatusQuery => reply::response_size(msgref, image),
+        TampType::CommunityUpdate => reply::confirm_size(msgref),
+        TampType::SeqNumAdjust => reply::confirm_size(msgref),
+        TampType::Update => {
+            let entry_count = message::entry_count(s, q.updates);
+            if octets::MAX_UPDATES < entry_count {
+                return reply::error_size(der::contents(s, q.msgtype), msgref);
+            }
+            reply::update_size(msgref, entry_count)
+        }
     }
 }
 
-// The answer with a TAMP status, or 205.
-fn decide(message: &[u8], image: &[u8], verdict: &[u8], reply: &mut [u8], next: &mut [u8]) -> Answer
-    requires { ⌜ Rooms (now message) (now reply) (now next) × Stored (now image) ⌝ }
+// Writes it. Gives its length. The status octets are those of an Update's entries.
+fn put_request<'a>(
+    s: &'a [u8],
+    q: Request,
+    image: &'a [u8],
+    status: Status,
+    codes: &'a [u8],
+    reply: &mut [u8],
+) -> usize
+    requires { ⌜ (length (now s) ≤ maxMessage) × (length (now image) ≤ imageRoom) × (maxUpdates ≤ length (now codes))
+        × (length (requestReply (now s) q (now image) status (now codes)) ≤ length (now reply)) ⌝ }
+    ensures { λ r.
+        ⌜ Put (requestReply (now (s .entry)) q (now (image .entry)) status (now (codes .entry))) (now (reply .entry)) r (now (reply .exit)) ⌝ }
+{
+    let msgref = message::msg_ref(s, q);
+    let kind = q.kind;
+    match kind {
+        TampType::StatusQuery => reply::put_status_response(reply, msgref, image),
+        TampType::CommunityUpdate => reply::put_community_confirm(reply, msgref, status),
+        TampType::SeqNumAdjust => reply::put_adjust_confirm(reply, msgref),
+        TampType::Update => {
+            let entry_count = message::entry_count(s, q.updates);
+            if octets::MAX_UPDATES < entry_count {
+                return reply::put_error(reply, der::contents(s, q.msgtype), status, msgref);
+            }
+            reply::put_update_confirm(reply, msgref, &codes[..entry_count])
+        }
+    }
+}
+
+// "Statuses 1, 2, 3 and 4 have no reply (length 0). The rest reply with a TAMP Error".
+fn refusal_size(s: &[u8], r: Refusal) -> usize
+    requires { ⌜ length (now s) ≤ maxMessage ⌝ }
+    ensures { λ n. ⌜ n ≡ length (refusalReply (now (s .entry)) r) ⌝ }
+{
+    let about = r.msgtype;
+    if !about.valid {
+        return 0;
+    }
+    reply::error_size(der::contents(s, about), der::encoding(s, r.msgref))
+}
+
+fn put_refusal(s: &[u8], r: Refusal, reply: &mut [u8]) -> usize
+    requires { ⌜ length (refusalReply (now s) r) ≤ length (now reply) ⌝ }
+    ensures { λ n. ⌜ Put (refusalReply (now (s .entry)) r) (now (reply .entry)) n (now (reply .exit)) ⌝ }
+{
+    let about = r.msgtype;
+    if !about.valid {
+        return 0;
+    }
+    let status = r.status;
+    reply::put_error(
+        reply,
+        der::contents(s, about),
+        status,
+        der::encoding(s, r.msgref),
+    )
+}
+
+// How long the reply is.
+fn reply_size(s: &[u8], j: Acceptance, image: &[u8]) -> usize
+    requires { ⌜ (length (now s) ≤ maxMessage) × (length (now image) ≤ imageRoom) ⌝ }
+    ensures { λ r. ⌜ Sizes (now (s .entry)) j (now (image .entry)) r ⌝ }
+{
+    match j {
+        Acceptance::Refused(r) => refusal_size(s, r),
+        Acceptance::Accepted(q, _) => request_size(s, q, image),
+    }
+}
+
+// Writes it. Gives its length.
+fn put_reply<'a>(
+    s: &'a [u8],
+    j: Acceptance,
+    image: &'a [u8],
+    status: Status,
+    codes: &'a [u8],
+    reply: &mut [u8],
+) -> usize
+    requires { ⌜ (length (now s) ≤ maxMessage) × (length (now image) ≤ imageRoom) × (maxUpdates ≤ length (now codes))
+        × (length (replyWith (now s) j (now image) status (now codes)) ≤ length (now reply)) ⌝ }
+    ensures { λ r.
+        ⌜ Put (replyWith (now (s .entry)) j (now (image .entry)) status (now (codes .entry))) (now (reply .entry)) r (now (reply .exit)) ⌝ }
+{
+    match j {
+        Acceptance::Refused(r) => put_refusal(s, r, reply),
+        Acceptance::Accepted(q, _) => put_request(s, q, image, status, codes, reply),
+    }
+}
+
+// The status of the call and the next store: a refused message leaves the store alone.
+fn effect(s: &[u8], j: Acceptance, image: &[u8], next: &mut [u8], codes: &mut [u8]) -> Done
+    requires { ⌜ Known (now s) j (now image) (now next) × (maxUpdates ≤ length (now codes)) ⌝ }
+    ensures { λ r. ⌜ Does (now (s .entry)) j (now (image .entry)) (now (next .entry)) (now (codes .entry)) r (now (next .exit)) (now (codes .exit)) ⌝ }
+{
+    match j {
+        Acceptance::Refused(r) => {
+            octets::copy_to(next, 0, image);
+            let status = r.status;
+            Done {
+                status: status,
+                len: image.len(),
+            }
+        }
+        Acceptance::Accepted(q, w) => apply::effect(s, q, w, image, next, codes),
+    }
+}
+
+// The answer to a message: effect, reply and next store, or 205.
+fn respond(s: &[u8], j: Acceptance, image: &[u8], reply: &mut [u8], next: &mut [u8]) -> Answer
+    requires { ⌜ Rooms (now s) (now reply) (now next) × Stored (now image) × Known (now s) j (now image) (now next) ⌝ }
     ensures { λ r.
         ⌜ ((σ : Store) → decode (now (image .entry)) ≡ some σ →
         resultOf r (now (reply .exit)) (now (next .exit))
-        ≡ resultFor
-        (guarded (answerOf (now (message .entry)) (now (image .entry)) σ (judgement σ (now (verdict .entry)) (now (message .entry)))))
-        (now (reply .entry))
-        (now (next .entry))) ⌝ }
+        ≡ resultFor (guarded (answerOf (now (s .entry)) (now (image .entry)) σ (judgementOf j))) (now (reply .entry)) (now (next .entry))) ⌝ }
 {
-    match accept::judge(message, image, verdict) {
-        Judgement::Refuses(r) => refuse(message, r, image, reply, next),
-        Judgement::Accepts(q, i) => accepted(message, q, i, image, reply, next),
+    if octets::REPLY_ROOM < reply_size(s, j, image) {
+        return Answer::refusal(Status::LONG_REPLY);
     }
+    let mut codes = [0u8; octets::MAX_UPDATES];
+    let done = effect(s, j, image, next, &mut codes);
+    let status = done.status;
+    let len = done.len;
+    let n = put_reply(s, j, &next[..len], status, &codes, reply);
+    Answer::reply(status, n, len)
 }
 
 // The call: 201 to 204 in their order, then 205 or the answer. The rows after 201 are computed on any octets.
@@ -390,5 +259,11 @@ pub extern "C" fn tamp_call(
     if status.refuses() {
         return Answer::refusal(status);
     }
-    decide(message, image, verdict, reply, next)
+    respond(
+        message,
+        accept::judge(message, image, verdict),
+        image,
+        reply,
+        next,
+    )
 }

@@ -11,7 +11,7 @@ fn print_octets(o: &[u8]) {
     let mut text = [0u8; 4096];
     let mut i = 0;
     while i < o.len() {
-        let n = listing::put_hex(&mut text, 0, octets::slice(o, i, i + CHUNK));
+        let n = listing::hex_text(&mut text, octets::slice(o, i, i + CHUNK));
         io::write_all(STDOUT_FILENO, &text[..n]);
         i += CHUNK;
     }

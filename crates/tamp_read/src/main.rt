@@ -55,12 +55,9 @@ fn print_request(s: &[u8], q: Request) {
     print_kind(kind);
     io::write_all(STDOUT_FILENO, b" signer ");
     print_octets(message::key_identifier(s, q));
-    print_field(
-        b" number ",
-        message::number_in(s, der::field(s, q.msgref, der::INTEGER)),
-    );
+    print_field(b" number ", q.number);
     if let TampType::Update = kind {
-        let entries = message::entry_count(s, message::updates_in(s, q.body, q.msgref));
+        let entries = message::entry_count(s, q.updates);
         print_field(b" entries ", entries as u64);
     }
     io::write_all(STDOUT_FILENO, b"\n");

@@ -2,6 +2,7 @@
 use borrow.Author.Needs.{needs}
 use mathlib.Core.Path.{refl, sym, _∙_}
 use Rattle.protocol.specs.Acceptance.{foundStatus, bySigner}
+use Rattle.accept.specs.contract.Judged.{located}
 use Rattle.accept.proofs.Rows.{judge-refused, judge-by, found-record}
 use Rattle.accept.proofs.judge.Statement.{statement}
 use Rattle.accept.proofs.judge.Tie as tie
@@ -10,7 +11,7 @@ returns : tie.Need-returns
 returns c = judge-refused _ _ _ (sym (c .before .before .before .receive .ensures) ∙ c .before .r .given .1)
 
 returns-2 : tie.Need-returns-2
-unfolding bySigner foundStatus
+unfolding bySigner foundStatus located
 returns-2 c =
     let asks = sym (c .before .before .before .before .before .before .before .before .receive .ensures) ∙ c .before .before .before .before .before .before .q .given .1 in
     let wanted = c .before .before .before .before .key-identifier .ensures in
@@ -18,7 +19,7 @@ returns-2 c =
     c .refuse .ensures ∙ judge-by _ _ _ asks wanted sought (c .before .enum-told .given .1)
 
 returns-3 : tie.Need-returns-3
-unfolding bySigner foundStatus
+unfolding bySigner foundStatus located
 returns-3 c =
     let asks = sym (c .before .before .before .before .before .before .before .before .receive .ensures) ∙ c .before .before .before .before .before .before .q .given .1 in
     let wanted = c .before .before .before .before .key-identifier .ensures in
@@ -32,7 +33,7 @@ returns-4 c =
     let wanted = c .before .before .before .before .before .key-identifier .ensures in
     let sought = c .before .before .before .before .find-signer .ensures in
     let at = c .before .before .i .given .1 in
-    c .judge-at .ensures asks (found-record _ _ _ asks wanted sought at refl) ∙ judge-by _ _ _ asks wanted sought at
+    c .judge-at .ensures (found-record _ _ _ asks wanted sought at refl) ∙ judge-by _ _ _ asks wanted sought at
 
 pub judge-spec : {M : Type 1} → statement M
 judge-spec =

@@ -1,6 +1,6 @@
 -- `anchor::bad_constraints` meets its contract. Assumes nothing.
 use borrow.Author.Needs.{needs}
-use Rattle.syntax.specs.Forms.{formSyntax}
+use Rattle.syntax.specs.contract.Forms.{formSyntax}
 use Rattle.anchor.proofs.bad_constraints.Statement.{statement}
 use Rattle.anchor.proofs.bad_constraints.Tie as tie
 

@@ -6,7 +6,7 @@ use Rattle.octets.specs.Lists.{anyOf}
 use Rattle.der.specs.Element.{elements}
 use Rattle.der.proofs.Runs.{run-less}
 use Rattle.der.proofs.Loops.{any-here, any-later, any-none}
-use Rattle.anchor.specs.Faults.{isOtherCritical}
+use Rattle.anchor.specs.contract.Faults.{isOtherCritical}
 use Rattle.anchor.proofs.has_other_critical.Statement.{statement}
 use Rattle.anchor.proofs.has_other_critical.Tie as tie
 

@@ -1,7 +1,7 @@
 -- `anchor::is_storable` meets its contract. Assumes nothing.
 use borrow.Author.Needs.{needs}
 use mathlib.Core.Path.{sym}
-use Rattle.syntax.specs.Forms.{formSyntax}
+use Rattle.syntax.specs.contract.Forms.{formSyntax}
 use Rattle.anchor.proofs.Stages.{storable-is, storable-not}
 use Rattle.anchor.proofs.is_storable.Statement.{statement}
 use Rattle.anchor.proofs.is_storable.Tie as tie

@@ -11,7 +11,7 @@ use Rattle.der.proofs.Runs.{Reached, reached-none, reached-on}
 use Rattle.der.proofs.Fits.{then-fits, then-breaks, held-fits, held-breaks, each-start, each-end, each-broken, each-breaks, each-turn}
 use Rattle.der.specs.declared.Compared.the-variants.{Types}
 use Rattle.der.specs.Keys.{keysFrom}
-use Rattle.repeats.specs.Keys.{firstRepeat}
+use Rattle.repeats.specs.contract.Keys.{firstRepeat}
 use Rattle.repeats.proofs.Keys.{none-in, keys-end}
 use Rattle.envelope.proofs.Attributes.{in-place, first-on, attributeJudge}
 use borrow.Author.Needs.{needs}

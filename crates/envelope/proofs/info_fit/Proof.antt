@@ -1,6 +1,6 @@
 -- `envelope::info_fit` meets its contract. Assumes nothing.
 use borrow.Author.Needs.{needs}
-use Rattle.syntax.specs.Forms.{formSyntax}
+use Rattle.syntax.specs.contract.Forms.{formSyntax}
 use Rattle.envelope.specs.Rows.{row-2}
 use Rattle.envelope.proofs.info_fit.Statement.{statement}
 use Rattle.envelope.proofs.info_fit.Tie as tie

@@ -2,7 +2,7 @@
 use borrow.Author.Needs.{needs}
 use mathlib.Core.Path.{sym, ap, _∙_}
 use Rattle.der.specs.Element.{contents}
-use Rattle.syntax.specs.Forms.{formSyntax}
+use Rattle.syntax.specs.contract.Forms.{formSyntax}
 use Rattle.syntax.specs.Types.{recognised}
 use Rattle.envelope.proofs.Answers.{bare-unknown, bare-breaks, bare-both}
 use Rattle.envelope.proofs.is_bare.Statement.{statement}

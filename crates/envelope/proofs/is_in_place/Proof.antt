@@ -4,7 +4,7 @@ use mathlib.Core.Path.{sym, ap, ap₂, _∙_}
 use borrow.Author.Needs.{needs}
 use borrow.Author.Tests.{not-true, not-false}
 use Rattle.octets.specs.Octets.{ordered}
-use Rattle.repeats.specs.Keys.{isAt}
+use Rattle.repeats.specs.contract.Keys.{isAt}
 use Rattle.envelope.proofs.is_in_place.Statement.{statement}
 use Rattle.envelope.proofs.is_in_place.Tie as tie
 

@@ -7,7 +7,7 @@ use borrow.Author.Tests.{not-true, not-false}
 use Rattle.octets.specs.Limits.{maxAnchors}
 use Rattle.store.specs.Image.{readAnchor}
 use Rattle.store.proofs.Formats.{apart}
-use Rattle.image.specs.Check.{after, restAt}
+use Rattle.image.specs.contract.Check.{after, restAt}
 use Rattle.image.proofs.Checks.{section-over, section-broken, section-fails, section-holds, anchors-short, anchors-none, anchors-some, keys-read}
 use Rattle.image.proofs.anchor_section.Statement.{statement}
 use Rattle.image.proofs.anchor_section.Tie as tie

@@ -9,7 +9,7 @@ use Rattle.octets.specs.Octets.{octet}
 use Rattle.anchor.specs.Judge.{storable}
 use Rattle.store.specs.Image.{numberOk}
 use Rattle.store.proofs.Places.{anchor-short, anchor-cut, anchor-outside}
-use Rattle.image.specs.Check.{after}
+use Rattle.image.specs.contract.Check.{after}
 use Rattle.image.proofs.Checks.{anchor-number, anchor-info, anchor-stops}
 use Rattle.image.proofs.anchor_stop.Statement.{statement}
 use Rattle.image.proofs.anchor_stop.Tie as tie

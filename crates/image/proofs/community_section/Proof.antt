@@ -8,7 +8,7 @@ use Rattle.octets.specs.Limits.{maxCommunities}
 use Rattle.octets.specs.Octets.{distinct}
 use Rattle.store.specs.Image.{readCommunity, readCommunitySection}
 use Rattle.store.proofs.Taken.{names-taken}
-use Rattle.image.specs.Check.{restAt}
+use Rattle.image.specs.contract.Check.{restAt}
 use Rattle.image.proofs.Checks.{section-short, section-over, section-broken, section-fails, section-holds}
 use Rattle.image.proofs.community_section.Statement.{statement}
 use Rattle.image.proofs.community_section.Tie as tie

@@ -4,7 +4,7 @@ use mathlib.Core.Path.{sym, ap, _∙_}
 use lib.ListN.{drop}
 use borrow.Author.Tests.{not-true, not-false}
 use Rattle.der.specs.Contents.{oidOk}
-use Rattle.image.specs.Check.{after, nameRead}
+use Rattle.image.specs.contract.Check.{after, nameRead}
 use Rattle.image.proofs.Checks.{community-broken, community-no-oid, community-stops}
 use Rattle.image.proofs.community_stop.Statement.{statement}
 use Rattle.image.proofs.community_stop.Tie as tie

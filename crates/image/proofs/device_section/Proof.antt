@@ -3,7 +3,7 @@ use borrow.Author.Needs.{needs}
 use mathlib.Core.Path.{sym, ap, _∙_}
 use borrow.Author.Tests.{not-true, not-false}
 use Rattle.der.specs.Contents.{oidOk}
-use Rattle.image.specs.Check.{after, nameRead}
+use Rattle.image.specs.contract.Check.{after, nameRead}
 use Rattle.image.proofs.Checks.{device-count, device-hwType, device-serial, device-oid, device-stops}
 use Rattle.image.proofs.device_section.Statement.{statement}
 use Rattle.image.proofs.device_section.Tie as tie

@@ -1,7 +1,7 @@
 -- `image::is_image` meets its contract. Assumes nothing.
 use borrow.Author.Needs.{needs}
 use mathlib.Core.Path.{sym, ap, _∙_}
-use Rattle.image.specs.Check.{restAt}
+use Rattle.image.specs.contract.Check.{restAt}
 use Rattle.image.proofs.Checks.{image-no-device, image-no-anchors, image-no-communities, image-stops}
 use Rattle.image.proofs.is_image.Statement.{statement}
 use Rattle.image.proofs.is_image.Tie as tie

@@ -3,7 +3,7 @@ use borrow.Author.Needs.{needs}
 use mathlib.Core.Path.{_≡_, refl, sym, _∙_}
 use lib.ListN.{drop}
 use Rattle.octets.specs.Octets.{distinct}
-use Rattle.store.specs.Parts.{namesFrom}
+use Rattle.store.specs.contract.Parts.{namesFrom}
 use Rattle.image.proofs.Checks.{names-repeated, names-fresh, names-end}
 use Rattle.image.proofs.names_differ.Statement.{statement}
 use Rattle.image.proofs.names_differ.Tie as tie

@@ -2,7 +2,7 @@
 use borrow.Author.Needs.{needs}
 use Prim.Native.Nat.{_-_, _/_}
 use native.Mathlib.Omega.{arith}
-use Rattle.listing.specs.Texts.{decimalDigits}
+use Rattle.listing.specs.contract.Texts.{decimalDigits}
 use Rattle.listing.proofs.Texts.{digits-stop, digits-zero, digits-on, digits-length}
 use Rattle.octets.proofs.Turns.{left-start, left-step, last-step, nothing-written}
 use Prim.Native.Nat.{ℕ, _<_}

@@ -4,7 +4,7 @@ use native.Mathlib.Omega.{arith}
 use mathlib.Core.Path.{refl}
 use Rattle.octets.specs.Ascii.{ascii, codesFrom}
 use Rattle.store.specs.Listing.{countLine}
-use Rattle.listing.specs.Texts.{communitiesText}
+use Rattle.listing.specs.contract.Texts.{communitiesText}
 use Rattle.listing.proofs.Texts.{communities-are, communities-length}
 use Rattle.octets.proofs.Turns.{left-start, left-step, last-step}
 use Rattle.listing.proofs.put_communities.Statement.{statement}

@@ -3,7 +3,7 @@ use borrow.Author.Needs.{needs}
 use native.Mathlib.Omega.{arith}
 use mathlib.Core.Path.{refl}
 use Rattle.store.specs.Listing.{countLine}
-use Rattle.listing.specs.Texts.{decimalLine}
+use Rattle.listing.specs.contract.Texts.{decimalLine}
 use Rattle.listing.proofs.Texts.{count-length}
 use Rattle.octets.proofs.Turns.{left-start, left-step, last-step}
 use Rattle.listing.proofs.put_count.Statement.{statement}

@@ -5,7 +5,7 @@ use mathlib.Core.List.{[], _∷_}
 use mathlib.Core.Path.{refl}
 use Rattle.octets.specs.Ascii.{ascii, codesFrom}
 use Rattle.store.specs.Listing.{hex}
-use Rattle.listing.specs.Texts.{deviceLine}
+use Rattle.listing.specs.contract.Texts.{deviceLine}
 use Rattle.listing.proofs.Texts.{device-is, device-length}
 use Rattle.octets.proofs.Turns.{left-start, left-step, last-step}
 use Rattle.listing.proofs.put_device.Statement.{statement}

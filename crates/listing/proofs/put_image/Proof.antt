@@ -2,7 +2,7 @@
 use borrow.Author.Needs.{needs}
 use native.Mathlib.Omega.{arith}
 use mathlib.Core.Path.{refl}
-use Rattle.listing.specs.Texts.{deviceLine, anchorsText, imageText}
+use Rattle.listing.specs.contract.Texts.{deviceLine, anchorsText, imageText}
 use Rattle.listing.proofs.Texts.{image-length}
 use Rattle.octets.proofs.Turns.{left-start, left-step, last-step}
 use Rattle.listing.proofs.put_image.Statement.{statement}

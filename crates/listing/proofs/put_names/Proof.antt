@@ -2,7 +2,7 @@
 use borrow.Author.Needs.{needs}
 use mathlib.Core.Path.{refl}
 use lib.ListN.{drop}
-use Rattle.listing.specs.Texts.{hexLine, nameLines}
+use Rattle.listing.specs.contract.Texts.{hexLine, nameLines}
 use Rattle.listing.proofs.Texts.{names-line, names-end}
 use Rattle.octets.proofs.Turns.{Unwritten, left-start, left-fits, left-step, left-end}
 use Rattle.listing.proofs.put_names.Statement.{statement}

@@ -2,7 +2,7 @@
 use borrow.Author.Needs.{needs}
 use Rattle.octets.specs.Ascii.{ascii, codesFrom}
 use Rattle.store.specs.Listing.{numberText}
-use Rattle.listing.specs.Texts.{decimalLine, numberLine}
+use Rattle.listing.specs.contract.Texts.{decimalLine, numberLine}
 use Rattle.listing.proofs.put_number.Statement.{statement}
 use Rattle.listing.proofs.put_number.Tie as tie
 

@@ -5,7 +5,7 @@ use native.Mathlib.Nat.{sub-zero}
 use native.Mathlib.Omega.{arith}
 use mathlib.Core.Path.{refl}
 use lib.ListN.{drop}
-use Rattle.listing.specs.Texts.{recordLine, recordLines}
+use Rattle.listing.specs.contract.Texts.{recordLine, recordLines}
 use Rattle.listing.proofs.Texts.{lines-turn, lines-end}
 use Rattle.octets.proofs.Turns.{Unwritten, left-start, left-fits, left-step, left-end}
 use Rattle.listing.proofs.put_records.Statement.{statement}

@@ -1,7 +1,7 @@
 -- `listing::put_role` meets its contract. Assumes nothing.
 use borrow.Author.Needs.{needs}
 use Rattle.octets.specs.Ascii.{ascii, codesFrom}
-use Rattle.listing.specs.Texts.{roleField}
+use Rattle.listing.specs.contract.Texts.{roleField}
 use Rattle.listing.proofs.put_role.Statement.{statement}
 use Rattle.listing.proofs.put_role.Tie as tie
 

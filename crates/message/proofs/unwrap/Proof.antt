@@ -7,19 +7,17 @@ use Rattle.message.proofs.unwrap.Tie as tie
 
 returns : tie.Need-returns
 returns c =
-    let r127 = c .before .before .before in
+    let r127 = c .before in
     let r31 = r127 .before .before in
     let r36 = r31 .before in
     let read = r36 .before .before in
-    let a = read .before .before .before .before .before .before .args in
     c .passed .ensures
-    ∙ unwraps
-    (a .s .now)
-    (a .w)
+    ∙ unwraps _ _
     (read .before .before .element-at .ensures)
     (read .before .field .ensures)
-    (read .field2 .ensures)
-    (r36 .before .body-fit .ensures)
+    (read .request-in .ensures)
+    _
+    (r36 .before .content-fit .ensures)
     (r127 .before .wants-verbose .ensures)
     (r36 .or-at .ensures)
     (r31 .or-if .ensures)

@@ -3,7 +3,7 @@ use Prim.Native.Nat.{_+_, _*_, _≤_}
 use native.Mathlib.Omega.{arith}
 use mathlib.Core.Path.{_≡_, refl, sym, _∙_}
 use borrow.Author.Needs.{needs}
-use Rattle.repeats.specs.Order.{isBefore, find}
+use Rattle.repeats.specs.contract.Order.{isBefore, find}
 use Rattle.repeats.proofs.Led.{find-end, find-turn}
 use Rattle.repeats.proofs.find.Statement.{statement}
 use Rattle.repeats.proofs.find.Tie as tie

@@ -5,7 +5,7 @@ use mathlib.Core.Path.{_≡_}
 use lib.ListN.{length}
 use borrow.Author.Needs.{needs}
 use Rattle.der.proofs.Runs.{run-on}
-use Rattle.repeats.specs.Order.{cells}
+use Rattle.repeats.specs.contract.Order.{cells}
 use Rattle.repeats.proofs.insert_all.Statement.{statement}
 use Rattle.repeats.proofs.insert_all.Tie as tie
 

@@ -7,7 +7,7 @@ use mathlib.Core.Path.{sym, subst}
 use borrow.Author.Needs.{needs}
 use Rattle.der.proofs.Runs.{run-on}
 use Rattle.der.specs.Keys.{keysFrom, keysIn}
-use Rattle.repeats.specs.Order.{ledTo, Below}
+use Rattle.repeats.specs.contract.Order.{ledTo, Below}
 use Rattle.repeats.proofs.Keys.{keys-end, keys-turn}
 use Rattle.repeats.proofs.Led.{below-none, below-first}
 use Rattle.repeats.proofs.is_below.Statement.{statement}

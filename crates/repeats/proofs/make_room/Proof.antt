@@ -3,7 +3,7 @@ use Prim.Native.Nat.{_<_}
 use mathlib.Core.Path.{_≡_}
 use lib.ListN.{length}
 use borrow.Author.Needs.{needs}
-use Rattle.repeats.specs.Order.{cells}
+use Rattle.repeats.specs.contract.Order.{cells}
 use Rattle.repeats.proofs.make_room.Statement.{statement}
 use Rattle.repeats.proofs.make_room.Tie as tie
 

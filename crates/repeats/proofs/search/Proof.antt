@@ -10,8 +10,8 @@ use Rattle.der.specs.Element.{elements, inside}
 use Rattle.der.proofs.Elements.{valid-within}
 use Rattle.der.proofs.Runs.{Reached, reached-none, reached-on}
 use Rattle.der.specs.Keys.{keysFrom, keysIn}
-use Rattle.repeats.specs.Keys.{firstRepeat}
-use Rattle.repeats.specs.Order.{ledTo, Below}
+use Rattle.repeats.specs.contract.Keys.{firstRepeat}
+use Rattle.repeats.specs.contract.Order.{ledTo, Below}
 use Rattle.repeats.proofs.Led.{below-new, below-more}
 use Rattle.repeats.proofs.Repeats.{keys-start, run-never, run-hit, run-broken, seen-on, run-on}
 use Rattle.repeats.proofs.search.Statement.{statement}

@@ -3,7 +3,7 @@ use native.Mathlib.Omega.{arith}
 use mathlib.Core.Path.{sym, _∙_}
 use borrow.Author.Needs.{needs}
 use borrow.Author.Tests.{eq-eqb, ne-eqb}
-use Rattle.repeats.specs.Order.{isBefore}
+use Rattle.repeats.specs.contract.Order.{isBefore}
 use Rattle.repeats.proofs.Led.{step-more, step-not}
 use Rattle.repeats.proofs.step.Statement.{statement}
 use Rattle.repeats.proofs.step.Tie as tie

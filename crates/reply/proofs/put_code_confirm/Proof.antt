@@ -3,7 +3,7 @@ use borrow.Author.Needs.{needs}
 use native.Mathlib.Omega.{arith}
 use mathlib.Core.Path.{refl, ap}
 use lib.ListN.{length}
-use Rattle.reply.specs.Parts.{partOf}
+use Rattle.reply.specs.contract.Parts.{partOf}
 use Rattle.reply.proofs.Answers.{written-as, code-is}
 use Rattle.reply.proofs.put_code_confirm.Statement.{statement}
 use Rattle.reply.proofs.put_code_confirm.Tie as tie

@@ -40,7 +40,7 @@ use denote.Exit.{yes}
 use denote.Signature.{plain}
 use Rattle.reply.specs.declared.Writer.{Writer}
 use Rattle.reply.specs.declared.Part.{Part}
-use Rattle.reply.specs.Parts.{partOf, fiveParts, wrote}
+use Rattle.reply.specs.contract.Parts.{partOf, fiveParts, wrote}
 use Rattle.reply.proofs.Part as P
 use Rattle.reply.proofs.Part.Laws as P′
 use Rattle.reply.proofs.Chain as chain

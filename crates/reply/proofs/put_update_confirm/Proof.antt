@@ -5,7 +5,7 @@ use mathlib.Core.Path.{ap}
 use lib.ListN.{length}
 use mathlib.Core.List.{map}
 use lib.ListN.{length-map}
-use Rattle.reply.specs.Parts.{statusNumbered}
+use Rattle.reply.specs.contract.Parts.{statusNumbered}
 use Rattle.reply.proofs.Answers.{written-as, update-size, update-rest, update-is}
 use Rattle.reply.proofs.put_update_confirm.Statement.{statement}
 use Rattle.reply.proofs.put_update_confirm.Tie as tie

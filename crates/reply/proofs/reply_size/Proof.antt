@@ -2,7 +2,7 @@
 use borrow.Author.Needs.{needs}
 use mathlib.Core.Path.{ap, _∙_}
 use Prim.Native.Nat.{ℕ, _+_}
-use Rattle.reply.specs.Parts.{elementSize}
+use Rattle.reply.specs.contract.Parts.{elementSize}
 use Rattle.reply.proofs.reply_size.Statement.{statement}
 use Rattle.reply.proofs.reply_size.Tie as tie
 

@@ -1,7 +1,7 @@
 -- `rights::any_entry` meets its contract. Assumes nothing.
 use borrow.Author.Needs.{needs}
 use Rattle.rights.specs.Rights.{anyContentType}
-use Rattle.rights.specs.Places.{anyEntry}
+use Rattle.rights.specs.contract.Places.{anyEntry}
 use Rattle.rights.proofs.any_entry.Statement.{statement}
 use Rattle.rights.proofs.any_entry.Tie as tie
 

@@ -1,6 +1,6 @@
 -- `store::anchor_count` meets its contract. Assumes nothing.
 use borrow.Author.Needs.{needs}
-use Rattle.store.specs.Parts.{anchorCount}
+use Rattle.store.specs.contract.Parts.{anchorCount}
 use Rattle.store.proofs.anchor_count.Statement.{statement}
 use Rattle.store.proofs.anchor_count.Tie as tie
 

@@ -1,6 +1,6 @@
 -- `store::community_count` meets its contract. Assumes nothing.
 use borrow.Author.Needs.{needs}
-use Rattle.store.specs.Parts.{communityCount}
+use Rattle.store.specs.contract.Parts.{communityCount}
 use Rattle.store.proofs.community_count.Statement.{statement}
 use Rattle.store.proofs.community_count.Tie as tie
 

@@ -3,7 +3,7 @@ use borrow.Author.Needs.{needs}
 use Prim.Native.Nat.{ℕ}
 use mathlib.Core.Path.{_∙_, ap}
 use lib.ListN.{drop}
-use Rattle.store.specs.Parts.{communityPlace, communityCount, communityOctets}
+use Rattle.store.specs.contract.Parts.{communityPlace, communityCount, communityOctets}
 use Rattle.store.proofs.Walk.{names-slice}
 use Rattle.store.proofs.community_octets.Statement.{statement}
 use Rattle.store.proofs.community_octets.Tie as tie

@@ -1,6 +1,6 @@
 -- `store::community_place` meets its contract. Assumes nothing.
 use borrow.Author.Needs.{needs}
-use Rattle.store.specs.Parts.{communityPlace}
+use Rattle.store.specs.contract.Parts.{communityPlace}
 use Rattle.store.proofs.community_place.Statement.{statement}
 use Rattle.store.proofs.community_place.Tie as tie
 

@@ -5,7 +5,7 @@ use native.Mathlib.Omega.{arith}
 use mathlib.Core.List.{List}
 use mathlib.Core.Path.{_≡_, sym, ap, _∙_}
 use lib.ListN.{drop}
-use Rattle.store.specs.Parts.{infoIn, isSought, firstFrom, infosFrom}
+use Rattle.store.specs.contract.Parts.{infoIn, isSought, firstFrom, infosFrom}
 use Rattle.store.proofs.Walk.{found-here, found-later, found-nowhere}
 use Rattle.store.proofs.find_anchor_from.Statement.{statement}
 use Rattle.store.proofs.find_anchor_from.Tie as tie

@@ -12,19 +12,19 @@ use Rattle.store.specs.declared.FoundSigner.{FoundSigner}
 use Rattle.store.specs.declared.FoundSigner.the-variants as found
 use Rattle.store.specs.Records.{recordsFrom, recordsOf}
 use Rattle.store.specs.Signer.{signerFrom, signer}
-use Rattle.store.specs.Parts.{recordEnd, identifierIn}
+use Rattle.store.specs.contract.Parts.{recordEnd, identifierIn}
 use Rattle.store.proofs.Walk.{missed, records-of, signer-found, signer-seen, signer-later, signer-none}
 use Rattle.store.proofs.find_signer.Statement.{statement}
 use Rattle.store.proofs.find_signer.Tie as tie
 
 abbrev Inv-loop : tie.InvT-loop
-Inv-loop image verdict wanted p₀ left₀ i₀ seen₀ p left i seen =
-    (i + left ≡ left₀)
-    × (signerFrom i (map identifierIn (recordsFrom left (drop p image))) verdict wanted (missed seen)
+Inv-loop image verdict wanted p₀ rest₀ i₀ seen₀ p rest i seen =
+    (i + rest ≡ rest₀)
+    × (signerFrom i (map identifierIn (recordsFrom rest (drop p image))) verdict wanted (missed seen)
     ≡ signer (map identifierIn (recordsOf image)) verdict wanted)
 
 abbrev μ-loop : tie.MeasureT-loop
-μ-loop image verdict wanted p₀ left₀ i₀ seen₀ p left i seen = left
+μ-loop image verdict wanted p₀ rest₀ i₀ seen₀ p rest i seen = rest
 
 loop-holds : tie.Need-loop-holds Inv-loop μ-loop
 unfolding signer
@@ -48,19 +48,19 @@ loop-again c =
     ∙ sym (c .before .before .equal .ensures)
     in
     let g : (m : FoundSigner) → missed (c .before .if1 .seen) ≡ m
-    → signerFrom (l .i + 1) (map identifierIn (recordsFrom (l .left - 1) (drop (c .record-end .result) s))) (a .verdict .now) (a .wanted .now)
+    → signerFrom (l .i + 1) (map identifierIn (recordsFrom (l .rest - 1) (drop (c .record-end .result) s))) (a .verdict .now) (a .wanted .now)
     (missed (c .before .if1 .seen))
-    ≡ signerFrom (l .i + 1) (map identifierIn (recordsFrom (l .left - 1) (drop (recordEnd s (l .p)) s))) (a .verdict .now) (a .wanted .now) m = λ m q.
-    ap₂ (λ (p : ℕ) (m : FoundSigner). signerFrom (l .i + 1) (map identifierIn (recordsFrom (l .left - 1) (drop p s))) (a .verdict .now) (a .wanted .now) m)
+    ≡ signerFrom (l .i + 1) (map identifierIn (recordsFrom (l .rest - 1) (drop (recordEnd s (l .p)) s))) (a .verdict .now) (a .wanted .now) m = λ m q.
+    ap₂ (λ (p : ℕ) (m : FoundSigner). signerFrom (l .i + 1) (map identifierIn (recordsFrom (l .rest - 1) (drop p s))) (a .verdict .now) (a .wanted .now) m)
     (c .record-end .ensures) q
     in (
       omega arith,
       ⊎-elim
           (λ w. g found.Unverified (ap missed (w .3))
-          ∙ sym (signer-seen s (l .p) (l .left) (l .i) (a .verdict .now) (a .wanted .now) (missed (l .seen)) t (e ∙ w .0 .taken)
+          ∙ sym (signer-seen s (l .p) (l .rest) (l .i) (a .verdict .now) (a .wanted .now) (missed (l .seen)) t (e ∙ w .0 .taken)
           (sym (w .1 .ensures) ∙ w .2 .left)) ∙ l .inv .1)
           (λ w. g (missed (l .seen)) (ap missed (w .1))
-          ∙ sym (signer-later s (l .p) (l .left) (l .i) (a .verdict .now) (a .wanted .now) (missed (l .seen)) t (e ∙ w .0 .left)) ∙ l .inv .1)
+          ∙ sym (signer-later s (l .p) (l .rest) (l .i) (a .verdict .now) (a .wanted .now) (missed (l .seen)) t (e ∙ w .0 .left)) ∙ l .inv .1)
           (c .before .if1 .came),
     )
 
@@ -76,7 +76,7 @@ returns c =
     ∙ sym (w .3 .ensures)
     ∙ w .4 .taken
     in
-    sym (signer-found (a .image .now) (l .p) (l .left) (l .i) (a .verdict .now) (a .wanted .now) (missed (l .seen)) (w .0 .taken) e
+    sym (signer-found (a .image .now) (l .p) (l .rest) (l .i) (a .verdict .now) (a .wanted .now) (missed (l .seen)) (w .0 .taken) e
     (sym (w .5 .ensures) ∙ w .6 .taken)) ∙ l .inv .1)
     (c .before .loop-test .came)
 
@@ -85,14 +85,14 @@ returns-2 c =
     let a = c .before .before .before .before .before .before .before .before .before .args in
     let l = c .before .before .before .loop in
     sym (ap missed (c .if4 .taken)) ∙ sym
-    (signer-none (a .image .now) (l .p) (l .left) (l .i) (a .verdict .now) (a .wanted .now) (missed (l .seen)) (c .before .if3 .left)) ∙ l .inv .1
+    (signer-none (a .image .now) (l .p) (l .rest) (l .i) (a .verdict .now) (a .wanted .now) (missed (l .seen)) (c .before .if3 .left)) ∙ l .inv .1
 
 returns-3 : tie.Need-returns-3 Inv-loop μ-loop
 returns-3 c =
     let a = c .before .before .before .before .before .before .before .before .before .args in
     let l = c .before .before .before .loop in
     sym (ap missed (c .if4 .left)) ∙ sym
-    (signer-none (a .image .now) (l .p) (l .left) (l .i) (a .verdict .now) (a .wanted .now) (missed (l .seen)) (c .before .if3 .left)) ∙ l .inv .1
+    (signer-none (a .image .now) (l .p) (l .rest) (l .i) (a .verdict .now) (a .wanted .now) (missed (l .seen)) (c .before .if3 .left)) ∙ l .inv .1
 
 pub find-signer-spec : {M : Type 1} → statement M
 find-signer-spec =

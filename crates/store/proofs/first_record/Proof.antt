@@ -1,6 +1,6 @@
 -- `store::first_record` meets its contract. Assumes nothing.
 use borrow.Author.Needs.{needs}
-use Rattle.store.specs.Parts.{firstRecord}
+use Rattle.store.specs.contract.Parts.{firstRecord}
 use Rattle.store.proofs.first_record.Statement.{statement}
 use Rattle.store.proofs.first_record.Tie as tie
 

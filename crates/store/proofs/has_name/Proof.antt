@@ -4,7 +4,7 @@ use Prim.Native.Nat.{ℕ, _-_}
 use mathlib.Core.Path.{_≡_, refl, sym, ap, _∙_}
 use lib.ListN.{drop}
 use Rattle.octets.specs.Octets.{same, member}
-use Rattle.store.specs.Parts.{namesFrom}
+use Rattle.store.specs.contract.Parts.{namesFrom}
 use Rattle.store.proofs.Walk.{name-here, name-later, name-none}
 use Rattle.store.proofs.has_name.Statement.{statement}
 use Rattle.store.proofs.has_name.Tie as tie

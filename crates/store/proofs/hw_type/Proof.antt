@@ -1,6 +1,6 @@
 -- `store::hw_type` meets its contract. Assumes nothing.
 use borrow.Author.Needs.{needs}
-use Rattle.store.specs.Parts.{hwTypeIn}
+use Rattle.store.specs.contract.Parts.{hwTypeIn}
 use Rattle.store.proofs.hw_type.Statement.{statement}
 use Rattle.store.proofs.hw_type.Tie as tie
 

@@ -1,6 +1,6 @@
 -- `store::is_sought` meets its contract. Assumes nothing.
 use borrow.Author.Needs.{needs}
-use Rattle.store.specs.Parts.{isSought}
+use Rattle.store.specs.contract.Parts.{isSought}
 use Rattle.store.proofs.is_sought.Statement.{statement}
 use Rattle.store.proofs.is_sought.Tie as tie
 

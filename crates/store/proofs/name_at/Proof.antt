@@ -1,6 +1,6 @@
 -- `store::name_at` meets its contract. Assumes nothing.
 use borrow.Author.Needs.{needs}
-use Rattle.store.specs.Parts.{nameEnd}
+use Rattle.store.specs.contract.Parts.{nameEnd}
 use Rattle.store.proofs.Walk.{slice-drop}
 use Rattle.store.proofs.name_at.Statement.{statement}
 use Rattle.store.proofs.name_at.Tie as tie

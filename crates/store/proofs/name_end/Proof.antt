@@ -1,7 +1,7 @@
 -- `store::name_end` meets its contract. Assumes nothing.
 use borrow.Author.Needs.{needs}
 use native.Mathlib.Omega.{arith}
-use Rattle.store.specs.Parts.{nameEnd}
+use Rattle.store.specs.contract.Parts.{nameEnd}
 use Rattle.store.proofs.name_end.Statement.{statement}
 use Rattle.store.proofs.name_end.Tie as tie
 

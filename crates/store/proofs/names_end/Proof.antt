@@ -4,7 +4,7 @@ use Prim.Native.Nat.{ℕ, _≤_, _+_, _-_, min}
 use native.Mathlib.Omega.{arith}
 use mathlib.Core.Path.{_≡_, sym, ap, _∙_}
 use lib.ListN.{length, drop}
-use Rattle.store.specs.Parts.{nameEnd, namesSize}
+use Rattle.store.specs.contract.Parts.{nameEnd, namesSize}
 use Rattle.store.proofs.Walk.{sizes-turn}
 use Rattle.store.proofs.names_end.Statement.{statement}
 use Rattle.store.proofs.names_end.Tie as tie

@@ -3,7 +3,7 @@ use borrow.Author.Needs.{needs}
 use Prim.Native.Nat.{ℕ, _≤_, _-_, _+_}
 use native.Mathlib.Omega.{arith}
 use mathlib.Core.Path.{_≡_, sym, ap, ap₂, _∙_}
-use Rattle.store.specs.Parts.{firstRecord, recordPlace}
+use Rattle.store.specs.contract.Parts.{firstRecord, recordPlace}
 use Rattle.store.proofs.Walk.{place-turn, place-end}
 use Rattle.store.proofs.record_place.Statement.{statement}
 use Rattle.store.proofs.record_place.Tie as tie

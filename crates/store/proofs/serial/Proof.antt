@@ -1,6 +1,6 @@
 -- `store::serial` meets its contract. Assumes nothing.
 use borrow.Author.Needs.{needs}
-use Rattle.store.specs.Parts.{serialIn}
+use Rattle.store.specs.contract.Parts.{serialIn}
 use Rattle.store.proofs.serial.Statement.{statement}
 use Rattle.store.proofs.serial.Tie as tie
 

@@ -6,7 +6,7 @@ use lib.ListN.{drop}
 use borrow.Author.Needs.{needs}
 use Rattle.syntax.specs.declared.Recognised.the-variants.{Tamp}
 use Rattle.syntax.specs.Types.{tampTypes, rowOf, recognised}
-use Rattle.syntax.specs.TypeTable.{typeRows}
+use Rattle.syntax.specs.contract.TypeTable.{typeRows}
 use Rattle.syntax.proofs.TypeTable.{types-compared, types-start, types-here, types-next, types-end}
 use Rattle.syntax.proofs.find_type.Statement.{statement}
 use Rattle.syntax.proofs.find_type.Tie as tie

@@ -1,6 +1,6 @@
 -- `syntax::recognise` meets its contract: the constant is the table of the definitions. Assumes nothing.
 use mathlib.Core.Path.{refl}
-use Rattle.syntax.specs.TypeTable.{typeTable}
+use Rattle.syntax.specs.contract.TypeTable.{typeTable}
 use borrow.Author.Needs.{needs}
 use Rattle.syntax.proofs.recognise.Statement.{statement}
 use Rattle.syntax.proofs.recognise.Tie as tie

@@ -43,7 +43,7 @@ use denote.Signature.{plain, namedLft}
 use Rattle.octets.specs.Octets.{placed}
 use Rattle.reply.specs.declared.Writer.{Writer}
 use Rattle.reply.specs.declared.Part.{Part}
-use Rattle.reply.specs.Parts.{partOf}
+use Rattle.reply.specs.contract.Parts.{partOf}
 use Rattle.reply.proofs.Writer as T
 use Rattle.reply.proofs.Writer.Laws as T′
 use Rattle.reply.proofs.Part as P

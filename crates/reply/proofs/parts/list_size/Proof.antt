@@ -3,7 +3,7 @@ use borrow.Author.Needs.{needs}
 use native.Mathlib.Omega.{arith}
 use mathlib.Core.Path.{sym, ap, _∙_}
 use lib.ListN.{length}
-use Rattle.reply.specs.Parts.{elementSize}
+use Rattle.reply.specs.contract.Parts.{elementSize}
 use Rattle.reply.proofs.Members.{list-none, list-length}
 use Rattle.reply.proofs.parts.list_size.Statement.{statement}
 use Rattle.reply.proofs.parts.list_size.Tie as tie

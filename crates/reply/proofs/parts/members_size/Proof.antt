@@ -4,7 +4,7 @@ use Prim.Native.Nat.{_+_}
 use native.Mathlib.Omega.{arith}
 use mathlib.Core.Path.{_≡_, refl, ap}
 use lib.ListN.{length, drop}
-use Rattle.reply.specs.Parts.{membersFrom}
+use Rattle.reply.specs.contract.Parts.{membersFrom}
 use Rattle.reply.proofs.Members.{members-size, members-end}
 use Rattle.reply.proofs.parts.members_size.Statement.{statement}
 use Rattle.reply.proofs.parts.members_size.Tie as tie

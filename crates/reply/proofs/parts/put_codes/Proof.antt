@@ -4,7 +4,7 @@ use native.Mathlib.Omega.{arith}
 use borrow.Author.Needs.{needs}
 use mathlib.Core.Path.{_≡_}
 use lib.ListN.{length, drop, getD}
-use Rattle.reply.specs.Parts.{statusCodes}
+use Rattle.reply.specs.contract.Parts.{statusCodes}
 use Rattle.octets.proofs.Turns.{Unwritten, left-start, left-end, left-fits, left-step}
 use Rattle.reply.proofs.Codes.{one-code, codes-from, codes-end}
 use Rattle.reply.proofs.parts.put_codes.Statement.{statement}

@@ -5,7 +5,7 @@ use mathlib.Core.List.{_++_}
 use lib.ListN.{length, drop}
 use Rattle.octets.proofs.Turns.{Unwritten, left-start, left-fits, left-step, left-end}
 use Rattle.der.specs.Write.{header}
-use Rattle.reply.specs.Parts.{membersFrom}
+use Rattle.reply.specs.contract.Parts.{membersFrom}
 use Rattle.reply.proofs.Members.{members-header, members-end}
 use Rattle.reply.proofs.parts.put_members.Statement.{statement}
 use Rattle.reply.proofs.parts.put_members.Tie as tie

@@ -1,6 +1,6 @@
 -- `reply::parts::put_part` meets its contract. Assumes nothing.
 use borrow.Author.Needs.{needs}
-use Rattle.reply.specs.Parts.{partOf}
+use Rattle.reply.specs.contract.Parts.{partOf}
 use Rattle.reply.proofs.parts.put_part.Statement.{statement}
 use Rattle.reply.proofs.parts.put_part.Tie as tie
 

@@ -10,7 +10,7 @@ use borrow.Author.Tests.{not-true, not-false, leb-true, eqb-true}
 use Rattle.der.proofs.Elements.{valid-within}
 use Rattle.der.proofs.Fits.{then-fits, then-breaks}
 use Rattle.syntax.specs.Grammar.{many, fit}
-use Rattle.syntax.specs.Rows.{grammarOf, RowIs}
+use Rattle.syntax.specs.contract.Rows.{grammarOf, RowIs}
 use Rattle.syntax.proofs.Rows.{first-fits}
 use Rattle.syntax.proofs.Window.{own}
 use Rattle.syntax.proofs.Match.{Met, met}

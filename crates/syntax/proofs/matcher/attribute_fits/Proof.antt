@@ -1,6 +1,6 @@
 -- `syntax::matcher::attribute_fits` meets its contract: the form's row stands for its syntax. Assumes nothing.
 use mathlib.Core.Path.{refl}
-use Rattle.syntax.specs.Table.{rows}
+use Rattle.syntax.specs.contract.Table.{rows}
 use Rattle.syntax.proofs.Ties.{attribute-is}
 use borrow.Author.Needs.{needs}
 use Rattle.syntax.proofs.matcher.attribute_fits.Statement.{statement}

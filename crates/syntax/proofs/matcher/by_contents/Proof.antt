@@ -1,6 +1,6 @@
 -- `syntax::matcher::by_contents` meets its contract. Assumes nothing.
 use borrow.Author.Needs.{needs}
-use Rattle.syntax.specs.Rows.{byContents}
+use Rattle.syntax.specs.contract.Rows.{byContents}
 use Rattle.syntax.proofs.matcher.by_contents.Statement.{statement}
 use Rattle.syntax.proofs.matcher.by_contents.Tie as tie
 

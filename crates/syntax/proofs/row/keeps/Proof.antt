@@ -1,8 +1,10 @@
 -- `syntax::row::keeps` meets its contract, rule by rule. Assumes nothing.
 use mathlib.Core.Path.{sym}
+use native.Mathlib.Omega.{arith}
 use borrow.Author.Needs.{needs}
 use Rattle.syntax.specs.Grammar.{obeyed}
-use Rattle.syntax.specs.Rows.{ruleOf}
+use Rattle.syntax.specs.contract.Rows.{ruleOf}
+use Rattle.syntax.proofs.Rules.{seqNumber-is}
 use Rattle.syntax.proofs.RowRules.{same-none, rule-other}
 use Rattle.syntax.proofs.row.keeps.Statement.{statement}
 use Rattle.syntax.proofs.row.keeps.Tie as tie
@@ -22,7 +24,10 @@ keeps-spec =
     (λ c κs. search needs)
     (λ c. rw (c .before .before .if5 .taken, c .before .is-integer .ensures, c .is-octet2 .ensures))
     (λ c κs. search needs)
-    (λ c. rw (c .before .if6 .taken, c .first .ensures))
+    (λ c.
+    rw (c .before .if6 .taken, c .first .ensures)
+    (seqNumber-is (c .before .before .before .before .before .before .before .before .before .args .o .now)
+    (λ i. omega (arith, c .before .before .before .before .before .before .before .shared-slice-known2 .given i))))
     (λ c.
     sym
     (rule-other _ _ _ _ (c .before .before .before .before .before .if1 .left) (c .before .before .before .before .if2 .left)

@@ -1,5 +1,5 @@
 -- `syntax::row::left_out` meets its contract. Assumes nothing.
-use Rattle.syntax.specs.Rows.{leftOut}
+use Rattle.syntax.specs.contract.Rows.{leftOut}
 use Rattle.syntax.proofs.row.left_out.Statement.{statement}
 use Rattle.syntax.proofs.row.left_out.Tie as tie
 

@@ -6,8 +6,8 @@ use borrow.Author.Needs.{needs}
 use borrow.Author.Tests.{not-true, not-false}
 use Rattle.der.proofs.Elements.{valid-within}
 use Rattle.syntax.specs.Grammar.{many}
-use Rattle.syntax.specs.Rows.{grammarOf, RowIs}
-use Rattle.syntax.specs.Whole.{conformsIn}
+use Rattle.syntax.specs.contract.Rows.{grammarOf, RowIs}
+use Rattle.syntax.specs.contract.Whole.{conformsIn}
 use Rattle.syntax.proofs.Match.{Met}
 use Rattle.syntax.proofs.RowSteps.{field-kind, rule-kind}
 use Rattle.syntax.proofs.Whole.{entered-is, whole-stands, conforms-on, conforms-not, by-run, by-leaf, whole-free, whole-end, whole-many, whole-rule}

@@ -1,5 +1,5 @@
 -- `syntax::walk::after_if` meets its contract. Assumes nothing.
-use Rattle.syntax.specs.Whole.{afterIf}
+use Rattle.syntax.specs.contract.Whole.{afterIf}
 use Rattle.syntax.proofs.walk.after_if.Statement.{statement}
 use Rattle.syntax.proofs.walk.after_if.Tie as tie
 

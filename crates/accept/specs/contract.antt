@@ -1,0 +1,2 @@
+pub mod Signer
+pub mod Judged
