@@ -7,6 +7,8 @@ A line of the table is KIND SCOPE OLD NEW. SCOPE is * or crates with commas betw
   fn     the function OLD (a_b), and what the checker makes of it in proofs: a-b, a-b2, a-b-requires, a-b-spec, Need-a-b-.., After-a-b
   word   OLD as a word of any identifier, between hyphens or underscores
   prose  OLD in comments, outside of quotation marks
+  file   the file OLD of specs/, crate.Name, stands as NEW, crate.Name or crate.folder.Name
+  moved  the definition OLD of specs/, crate.Name.definition, stands in the file NEW
 Comments are left alone but for names between backquotes. A folder of proofs/ and a file of specs/ or proofs/ that bears an old name is moved."""
 import os
 import re
@@ -114,11 +116,37 @@ def definitions(tops, rows):
                 open(f, "w", encoding="utf-8").write(text)
 
 
+def heads(module):
+    """how an import writes crate.Name of specs/: from another crate, and from its own"""
+    crate, rest = module.split(".", 1)
+    return f"Rattle.{crate}.specs.{rest}", f"Rattle.{crate}.specs.{rest}"
+
+
+def resent(text, own, rows):
+    """the text of a file of the crate own, with its imports sent to the files where the definitions stand now"""
+    for kind, old, new in rows:
+        to = heads(new)[new.split(".")[0] == own]
+        if kind == "file":
+            for head in heads(old):
+                text = re.sub(rf"{re.escape(head)}(?!{ENDS})", to, text)
+            continue
+        home, name = old.rsplit(".", 1)
+        for head in heads(home):
+            for m in list(re.finditer(rf"^(?P<use>(?:pub |ghost )?use ){re.escape(head)}\.\{{(?P<names>[^}}]*)\}}(?P<end>;?)$", text, re.M)):
+                names = [n.strip() for n in m.group("names").split(",")]
+                gone = [n for n in names if n.split(" as ")[0] == name]
+                left = [n for n in names if n not in gone]
+                lines = [(head, left), (to, gone)] if gone else [(head, names)]
+                text = text.replace(m.group(0), "\n".join(f"{m.group('use')}{h}.{{{', '.join(n)}}}{m.group('end')}" for h, n in lines if n))
+    return text
+
+
 def main():
     tops = sys.argv[1:] or [os.path.join(HERE, "..", "crates")]
     all_rows = list(table())
     definitions(tops, [(scope[0], old, new) for kind, scope, old, new in all_rows if kind == "def"])
-    rows = [(kind, scope, pattern(kind, old), old, new) for kind, scope, old, new in all_rows if kind != "def"]
+    moves = [(kind, old, new) for kind, scope, old, new in all_rows if kind in ("file", "moved")]
+    rows = [(kind, scope, pattern(kind, old), old, new) for kind, scope, old, new in all_rows if kind not in ("def", "file", "moved")]
     for top in tops:
         for folder, _, files in list(os.walk(top, topdown=False)):
             crate = re.search(r"crates/([^/]+)", folder + "/")
@@ -129,7 +157,7 @@ def main():
                     continue
                 path = os.path.join(folder, f)
                 text = open(path, encoding="utf-8").read()
-                new_text = renamed(text, rules, "--" if f.endswith(".antt") else "//")
+                new_text = resent(renamed(text, rules, "--" if f.endswith(".antt") else "//"), crate and crate.group(1), moves)
                 if new_text != text:
                     open(path, "w", encoding="utf-8").write(new_text)
                 for kind, _, _, old, new in inside:

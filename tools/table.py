@@ -2,9 +2,9 @@
 """table.py: makes the matcher's table from the grammar. Run it after a change of specs/Asn.antt, Types.antt (syntaxOf) or Forms.antt of
 crates/syntax.
 
-It reads those files and writes src/table.rt (the constant array), specs/Table.antt (the same rows as data) and proofs/Ties.antt (the rows
+It reads those files and writes src/table.rt (the constant array), specs/contract/Table.antt (the same rows as data) and proofs/Ties.antt (the rows
 of the named types and of the forms stand for them). A row is four octets: kind, tag or argument, body's row, next row; it names only
-rows above it, and equal rows are one. What a kind stands for is said by specs/Rows.antt.
+rows above it, and equal rows are one. What a kind stands for is said by specs/contract/Rows.antt.
 """
 import re
 import common
@@ -90,14 +90,18 @@ class Grammar:
             return self.tree(inner, outer)
         if head == 'free':
             return Node('free')
-        if head == 'end':
+        if head in ('end', 'noOther'):
             return Node('end')
-        if head in ('optional', 'required'):
-            return Node(head, self.number(args[0], env), self.tree(args[1], env), self.tree(args[2], env))
+        if head in ('optional', 'required', 'alternative'):
+            return Node('required' if head == 'required' else 'optional', self.number(args[0], env), self.tree(args[1], env), self.tree(args[2], env))
         if head == 'tagged':
             return Node('optional', self.number(args[0], env), self.tree(args[1], env), Node('end'))
         if head == 'one':
-            return Node('one', 0, self.tree(args[0], env), self.tree(args[1], env))
+            body, following = self.tree(args[0], env), self.tree(args[1], env)
+            if body.type and body.kind == 'optional' and body.next.kind == 'end':
+                # a CHOICE with one alternative
+                return Node('required', body.arg, body.body, following)
+            return Node('one', 0, body, following)
         if head == 'anyOptional':
             return Node('anyOptional', 0, None, self.tree(args[0], env))
         if head == 'many':
@@ -172,7 +176,7 @@ def shown(row):
 def main():
     single, _ = definitions(CRATE + 'specs/Asn.antt')
     _, messages = definitions(CRATE + 'specs/Types.antt')
-    _, forms = definitions(CRATE + 'specs/Forms.antt')
+    _, forms = definitions(CRATE + 'specs/contract/Forms.antt')
     names = fields(CRATE + 'specs/Asn.antt')
     grammar, table, ties = Grammar(single), Table(names), []
 
@@ -187,12 +191,12 @@ def main():
     attribute_rows = [(p.split()[0], row(body, p.split()[0].split('.')[1] + ' attribute')) for p, body in forms['attributeSyntax']]
 
     count = len(table.rows)
-    note = 'Made by tools/table.py from specs/Asn.antt and specs/Forms.antt: change those, not this file.'
+    note = 'Made by tools/table.py from specs/Asn.antt and specs/contract/Forms.antt: change those, not this file.'
 
     def constant(name):
         return re.sub(r'(?<=[a-z])(?=[A-Z])|(?<=[A-Z])(?=[A-Z][a-z])', '_', name.split('.')[-1]).upper()
 
-    rt = [f'// {note}', "// A row is four octets: kind, tag or argument, body's row, next row. specs/Rows.antt says what a row stands for.",
+    rt = [f'// {note}', "// A row is four octets: kind, tag or argument, body's row, next row. specs/contract/Rows.antt says what a row stands for.",
           f'pub type Table = [u8; {4 * count}];', '', 'pub const ROWS: Table = [']
     for n, row in enumerate(table.rows):
         rt.append(f'    // {table.comment(n)}')
@@ -221,17 +225,17 @@ def main():
     spec += [f'formRow {p} = {n}' for p, n in form_rows] + ['formRow (form.Message kind) = messageRow kind']
     spec += ['', 'abbrev pub attributeRow : AttributeForm → ℕ']
     spec += [f'attributeRow {p} = {n}' for p, n in attribute_rows]
-    write('specs/Table.antt', spec)
+    write('specs/contract/Table.antt', spec)
 
     # the one type whose rule takes the caller's octets is a form, and tied there
     ties = [(name, n) for name, n in ties if name != 'ContentInfoSignedData']
     names = [name for name, _ in ties]
     proof = [f'-- {note}', '-- Each named type, and each form, is what its row stands for. A stale table fails here.',
              'use Prim.Native.Nat.{ℕ}', 'use mathlib.Core.List.{List, [], _∷_, map}', 'use mathlib.Core.Path.{_≡_, refl}'] + declared
-    proof += ['use Rattle.syntax.specs.Asn.{' + ', '.join(part) + '}' for part in chunks(['id-signedData'] + names, 7)]
-    proof += ['use Rattle.syntax.specs.Types.{syntaxOf}', 'use Rattle.syntax.specs.Forms.{formSyntax, attributeSyntax}',
-              'use Rattle.syntax.specs.Table.{rows, messageRow, formRow, attributeRow}',
-              'use Rattle.syntax.specs.Rows.{ruleOf, rowSyntax, grown, grammarOf}', '']
+    proof += ['use Rattle.syntax.specs.Asn.{' + ', '.join(part) + '}' for part in chunks(['id-signedData'] + names, 6)]
+    proof += ['use Rattle.syntax.specs.Types.{syntaxOf}', 'use Rattle.syntax.specs.contract.Forms.{formSyntax, attributeSyntax}',
+              'use Rattle.syntax.specs.contract.Table.{rows, messageRow, formRow, attributeRow}',
+              'use Rattle.syntax.specs.contract.Rows.{ruleOf, rowSyntax, grown, grammarOf}', '']
     opened = 'unfolding rows ruleOf rowSyntax grown'
     proof += ['types-are : (o : List ℕ) → map (grammarOf o)', '    (' + ' ∷ '.join(str(n) for _, n in ties) + ' ∷ [])', '    ≡']
     proof += ['    ' + ('∷ ' if i else '') + ' ∷ '.join(part) for i, part in enumerate(chunks(names, 6))]
