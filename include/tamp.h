@@ -27,7 +27,7 @@
 /* Entries of an Update; more are answered TAMP_INSUFFICIENT_MEMORY for the message as a whole. */
 #define TAMP_MAX_UPDATES 16
 
-/* A stack with so many octets to spare is enough for a call: 45,400 is the most that was measured (docs/SPEED.md, bench/run.sh). */
+/* A stack with so many octets to spare is enough for a call: 45,432 is the most that was measured (docs/SPEED.md, bench/run.sh). */
 #define TAMP_STACK 131072
 
 /* The numbers of an answer, and the statuses that an Update Confirm lists for the entries. */

@@ -23,7 +23,7 @@ use Rattle.apply.specs.declared.Done.{Done}
 use Rattle.apply.specs.contract.Effect.{statusesIn, Effected}
 use Rattle.tamp.specs.declared.Answer.{Answer}
 use Rattle.tamp.specs.Left.{resultOf, resultFor, houseRefusal, answer}
-use Rattle.tamp.specs.contract.Given.{Stored, judgementOf, Does}
+use Rattle.tamp.specs.contract.Given.{Stored, asJudgement, Does}
 use Rattle.tamp.specs.contract.Answers.{requestReply, replyWith, Sizes, Put}
 use Rattle.tamp.proofs.Answers.{too-long, written}
 use Rattle.tamp.proofs.Replies.{given-lists, left-lists, request-reply, codes-written, some-codes, some-long, some-are, statuses-few}
@@ -33,7 +33,7 @@ take-placed d s = let z : length s ≡ 0 + length s = omega arith in ap (λ (n :
 
 module _ (s image : List ℕ) (σ : Store) (d : decode image ≡ some σ) where
   abbrev outcome : Acceptance → Outcome
-  outcome j = answerOf s image σ (judgementOf j)
+  outcome j = answerOf s image σ (asJudgement j)
 
   -- an outcome by its parts
   outcome-is : (j : Acceptance) → outcome j ≡ answered (outcomeNumber (outcome j)) (replyOf (outcome j)) (nextOf (outcome j))

@@ -24,7 +24,7 @@ use Rattle.tamp.specs.contract.Given as given
 use Rattle.tamp.specs.contract.Given.{Rooms, Stored, Known}
 
 -- a judgement that is handed on stays the judgement
-judgement-back : (image : List ℕ) (x : Judgement) → given.judgementOf (located image x) ≡ x
+judgement-back : (image : List ℕ) (x : Judgement) → given.asJudgement (located image x) ≡ x
 unfolding located signerAt
 judgement-back image (Refuses r) = refl
 judgement-back image (Accepts q i) = refl
@@ -36,11 +36,11 @@ module _ (s image verdict : List ℕ) {j : Acceptance} where
 
   -- the answer to what acceptance handed on is the answer to its judgement
   pub answered-by : j ≡ located image (judgedIn image verdict s) → {x : CallResult} (reply next : List ℕ)
-      → ((σ : Store) → decode image ≡ some σ → x ≡ resultFor (guarded (answerOf s image σ (given.judgementOf j))) reply next)
+      → ((σ : Store) → decode image ≡ some σ → x ≡ resultFor (guarded (answerOf s image σ (given.asJudgement j))) reply next)
       → (σ : Store) → decode image ≡ some σ → x ≡ resultFor (guarded (answerOf s image σ (judgement σ verdict s))) reply next
   answered-by f reply next h σ d =
       h σ d
-      ∙ ap (λ (v : Judgement). resultFor (guarded (answerOf s image σ v)) reply next) (ap given.judgementOf (by-store f σ d) ∙ judgement-back image (judgement σ verdict s))
+      ∙ ap (λ (v : Judgement). resultFor (guarded (answerOf s image σ v)) reply next) (ap given.asJudgement (by-store f σ d) ∙ judgement-back image (judgement σ verdict s))
 
   pub known : Octets s → Octets image → j ≡ located image (judgedIn image verdict s)
       → {reply next : List ℕ} → Rooms s reply next → Stored image → Known s j image next

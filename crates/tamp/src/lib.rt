@@ -14,7 +14,7 @@ ghost use Rattle.store.specs.Image.{decode};
 ghost use Rattle.store.specs.contract.Parts.{anchorCount};
 ghost use Rattle.protocol.specs.Call.{answerOf, guarded, refusalReply};
 ghost use Rattle.tamp.specs.Left.{resultOf, resultFor, Promise, houseRefusal as refusalOf, answer as answerWith};
-ghost use Rattle.tamp.specs.contract.Given.{Rooms, Stored, Known, judgementOf, Does};
+ghost use Rattle.tamp.specs.contract.Given.{Rooms, Stored, Known, asJudgement, Does};
 ghost use Rattle.tamp.specs.contract.Answers.{requestReply, replyWith, Sizes, Put};
 use accept::Acceptance;
 use apply::Done;
@@ -218,7 +218,7 @@ fn respond(s: &[u8], j: Acceptance, image: &[u8], reply: &mut [u8], next: &mut [
     ensures { λ r.
         ⌜ ((σ : Store) → decode (now (image .entry)) ≡ some σ →
         resultOf r (now (reply .exit)) (now (next .exit))
-        ≡ resultFor (guarded (answerOf (now (s .entry)) (now (image .entry)) σ (judgementOf j))) (now (reply .entry)) (now (next .entry))) ⌝ }
+        ≡ resultFor (guarded (answerOf (now (s .entry)) (now (image .entry)) σ (asJudgement j))) (now (reply .entry)) (now (next .entry))) ⌝ }
 {
     if octets::REPLY_ROOM < reply_size(s, j, image) {
         return Answer::refusal(Status::LONG_REPLY);

@@ -38,9 +38,9 @@ Known s (Refused r) image next = (length image ≤ imageRoom) × (imageRoom ≤ 
 Known s (Accepted q w) image next = (received s ≡ Asks q) × Signing q w image next
 
 -- the judgement that it stands for
-abbrev pub judgementOf : Acceptance → Judgement
-judgementOf (Refused r) = Refuses r
-judgementOf (Accepted q w) = Accepts q (w .position)
+abbrev pub asJudgement : Acceptance → Judgement
+asJudgement (Refused r) = Refuses r
+asJudgement (Accepted q w) = Accepts q (w .position)
 
 -- the status octets of an accepted Update's entries
 abbrev pub CodesOf : List ℕ → Acceptance → List ℕ → List ℕ → List ℕ → Type 0
@@ -54,9 +54,9 @@ Valid s (Accepted q w) image = (σ : Store) → decode image ≡ some σ → wel
 
 -- the status and the next store of the answer
 pub record Does (s : List ℕ) (j : Acceptance) (image next codes : List ℕ) (r : Done) (next′ codes′ : List ℕ) : Type 0 where
-  pub status : (σ : Store) → decode image ≡ some σ → r .status ≡ outcomeNumber (answerOf s image σ (judgementOf j))
-  pub size : (σ : Store) → decode image ≡ some σ → r .len ≡ length (nextOf (answerOf s image σ (judgementOf j)))
-  pub octets : (σ : Store) → decode image ≡ some σ → next′ ≡ placed next 0 (nextOf (answerOf s image σ (judgementOf j)))
+  pub status : (σ : Store) → decode image ≡ some σ → r .status ≡ outcomeNumber (answerOf s image σ (asJudgement j))
+  pub size : (σ : Store) → decode image ≡ some σ → r .len ≡ length (nextOf (answerOf s image σ (asJudgement j)))
+  pub octets : (σ : Store) → decode image ≡ some σ → next′ ≡ placed next 0 (nextOf (answerOf s image σ (asJudgement j)))
   pub short : r .len ≤ imageRoom
   pub valid : Valid s j image
   pub codes-are : CodesOf s j image codes codes′
