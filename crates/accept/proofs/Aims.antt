@@ -10,7 +10,7 @@ use Rattle.octets.specs.Octets.{same, member}
 use Rattle.der.specs.declared.Element.{Element}
 use Rattle.der.specs.Element.{root, contents, inside, field, fieldAfter}
 use Rattle.der.proofs.Bools.{on-true, on-false}
-use Rattle.protocol.specs.Target.{blockNames, entryNames, moduleNames, names}
+use Rattle.protocol.specs.Target.{blockNames, entryNames, moduleNames, namesDevice}
 
 module _ (serial s : List ℕ) (e : Element) where
   blockOf : Element → Bool
@@ -63,23 +63,23 @@ module _ (hwType serial : List ℕ) (communities : List (List ℕ)) (target : Li
   all : Element → Bool
   all t = elim (eqb (t .tag) 0x83) [ true ↦ true | false ↦ listed t ]
 
-  named : names hwType serial communities target ≡ all t
-  unfolding names listed all
+  named : namesDevice hwType serial communities target ≡ all t
+  unfolding namesDevice listed all
   named = ap all (sym q)
 
-  pub names-all : t .tag ≡ 0x83 → names hwType serial communities target ≡ true
+  pub names-all : t .tag ≡ 0x83 → namesDevice hwType serial communities target ≡ true
   unfolding all
   names-all h = named ∙ on-true (eqb (t .tag) 0x83) true (listed t) (eq-eqb _ _ h)
 
   module _ (n : t .tag ≡ 0x83 → ⊥) where
-    others : names hwType serial communities target ≡ listed t
+    others : namesDevice hwType serial communities target ≡ listed t
     unfolding all
     others = named ∙ on-false (eqb (t .tag) 0x83) true (listed t) (ne-eqb _ _ n)
 
-    pub names-community : t .tag ≡ 0xA2 → names hwType serial communities target ≡ inCommunity t
+    pub names-community : t .tag ≡ 0xA2 → namesDevice hwType serial communities target ≡ inCommunity t
     unfolding listed
     names-community k = others ∙ on-true (eqb (t .tag) 0xA2) (inCommunity t) (inModule t) (eq-eqb _ _ k)
 
-    pub names-module : (t .tag ≡ 0xA2 → ⊥) → names hwType serial communities target ≡ inModule t
+    pub names-module : (t .tag ≡ 0xA2 → ⊥) → namesDevice hwType serial communities target ≡ inModule t
     unfolding listed
     names-module k = others ∙ on-false (eqb (t .tag) 0xA2) (inCommunity t) (inModule t) (ne-eqb _ _ k)

@@ -32,7 +32,7 @@ use Rattle.message.specs.declared.Received.the-variants.{Asks, Refused}
 use Rattle.message.specs.Rows.{received}
 use Rattle.protocol.specs.declared.Judgement.{Judgement}
 use Rattle.protocol.specs.declared.Judgement.the-variants.{Accepts}
-use Rattle.protocol.specs.Target.{names, isUnsupported}
+use Rattle.protocol.specs.Target.{namesDevice, isUnsupported}
 use Rattle.protocol.specs.Acceptance.{messageContent, row-23, row-11, tooLow, row-21, refuseRequest, judgedAt, bySigner}
 use Rattle.accept.specs.declared.Signer.{Signer}
 use Rattle.accept.specs.declared.Acceptance.the-variants as acceptance
@@ -74,7 +74,7 @@ module _ (q : Request) where
 -- the rows after 16 on octets read as a store: the code's tests, and its status after each row
 module _ (image s : List ℕ) (q : Request) (i : ℕ) (below : i < length (recordsOf image)) {w : Signer} (at : w ≡ signerAt image i)
     {t : List ℕ} (slice : t ≡ encoding s (q .target)) {a b : Bool} (c d : Bool) (e : a ≡ isUnsupported t)
-    (f : b ≡ names (hwTypeIn image) (serialIn image) (communitiesOf image) t) (g : appliesIf c ≡ row-11 (signerRights image w) s q)
+    (f : b ≡ namesDevice (hwTypeIn image) (serialIn image) (communitiesOf image) t) (g : appliesIf c ≡ row-11 (signerRights image w) s q)
     (h : appliesIf d ≡ row-21 (numberIn (recordAt image (w .place))) q) {c1 c2 c3 c4 : Status} (r1 : c1 ≡ orStatus success a unsupportedTargetIdentifier)
     (r2 : c2 ≡ orStatus c1 (not b) incorrectTarget) (r3 : c3 ≡ orStatus c2 c notAuthorized) (r4 : c4 ≡ orStatus c3 d seqNumFailure) where
   abbrev σ : Store
@@ -84,9 +84,9 @@ module _ (image s : List ℕ) (q : Request) (i : ℕ) (below : i < length (recor
   unfolding row-23 storeIn
   is-23 = rw (f, slice)
 
-  pub weighed : judgedAt σ s q i ≡ givenIf (refuses c4) (refuseRequest q c4 0) (Accepts q i)
+  pub by-status : judgedAt σ s q i ≡ givenIf (refuses c4) (refuseRequest q c4 0) (Accepts q i)
   unfolding judgedAt
-  weighed =
+  by-status =
       first-row (to q) _
       ∙ row-test q _ _ _ r1 (ap appliesIf (rw slice at e)) refl _
       ∙ row-test q _ _ _ r2 is-23 refl _

@@ -4,7 +4,7 @@ ghost use Rattle.octets.specs.Lists.{anyOf};
 ghost use Rattle.octets.specs.Octets.{member};
 ghost use Rattle.der.specs.Element.{contents as contentsOf, inside};
 ghost use Rattle.store.specs.contract.Parts.{hwTypeIn, serialIn, namesFrom, communitiesOf};
-ghost use Rattle.protocol.specs.Target.{blockNames, entryNames, moduleNames, names, isUnsupported};
+ghost use Rattle.protocol.specs.Target.{blockNames, entryNames, moduleNames, namesDevice, isUnsupported};
 use der::Element;
 
 // "a block whose low and high have the serial's length and bound it as big-endian numbers, ends included"
@@ -109,7 +109,7 @@ fn any_community(names: &[u8], n: usize, target: &[u8], t: Element) -> bool
 // "allModules; a community in the store; or the same hwType with .."
 pub fn names_device(image: &[u8], target: &[u8]) -> bool
     ensures { λ r.
-        ⌜ r ≡ names (hwTypeIn (now (image .entry))) (serialIn (now (image .entry))) (communitiesOf (now (image .entry))) (now (target .entry)) ⌝ }
+        ⌜ r ≡ namesDevice (hwTypeIn (now (image .entry))) (serialIn (now (image .entry))) (communitiesOf (now (image .entry))) (now (target .entry)) ⌝ }
 {
     let t = der::element_at(target, 0, target.len());
     if t.tag == der::CONTEXT_3 {

@@ -126,12 +126,12 @@ module _ (id : List ℕ) (n : ℕ) (d₀ : List ℕ) (len k count : ℕ) where
     pub left : count ≡ j + length rest
     pub place : p ≡ upTo σ (σ .apex ∷ (old ++ done))
 
-  pub record Stamping (d : List ℕ) (j p : ℕ) : Type 0 where
+  pub record Numbering (d : List ℕ) (j p : ℕ) : Type 0 where
     pub room : length d ≡ length d₀
     pub seen : (σ : Store) (old new : List Anchor) → HoldsBoth σ old new d₀ len k → Seen σ old new d j p
 
-  pub stamping-start : count ≡ anchorCount (take len d₀) → {p : ℕ} → p ≡ placeOf (take len d₀) (k + 1) → Stamping d₀ (k + 1) p
-  stamping-start c {p} q =
+  pub numbering-start : count ≡ anchorCount (take len d₀) → {p : ℕ} → p ≡ placeOf (take len d₀) (k + 1) → Numbering d₀ (k + 1) p
+  numbering-start c {p} q =
       record {
         room = refl;
         seen = λ σ old new h.
@@ -175,12 +175,12 @@ module _ (id : List ℕ) (n : ℕ) (d₀ : List ℕ) (len k count : ℕ) where
             ∙ sym (place-is (withOthers l σ) (v .holds .holds .valid) (σ .apex ∷ (old ++ v .done)) (f .0 ∷ f .1) (ap (λ (r : List Anchor). σ .apex ∷ r) e));
       }
 
-  module _ {d : List ℕ} {j p : ℕ} (w : Stamping d j p) where
-    pub stamping-scratch : ScratchBoth d₀ len k → len ≤ length d
-    stamping-scratch s = omega (arith, w .room, s .holds .holds .inside)
+  module _ {d : List ℕ} {j p : ℕ} (w : Numbering d j p) where
+    pub numbering-scratch : ScratchBoth d₀ len k → len ≤ length d
+    numbering-scratch s = omega (arith, w .room, s .holds .holds .inside)
 
-    pub stamping-few : ScratchBoth d₀ len k → j ≤ count → j ≤ 32
-    stamping-few s h =
+    pub numbering-few : ScratchBoth d₀ len k → j ≤ count → j ≤ 32
+    numbering-few s h =
         let v = w .seen (s .store) (s .old) (s .new) (s .holds) in
         let τ = withOthers (s .old ++ (v .done ++ v .rest)) (s .store) in
         omega (
@@ -193,8 +193,8 @@ module _ (id : List ℕ) (n : ℕ) (d₀ : List ℕ) (len k count : ℕ) where
         )
 
     module _ (more : j < count) where
-      pub stamping-able : ScratchBoth d₀ len k → n ≤ maxNumber → CanNumber d len p n
-      stamping-able s b =
+      pub numbering-able : ScratchBoth d₀ len k → n ≤ maxNumber → CanNumber d len p n
+      numbering-able s b =
           let σ = s .store in
           let v = w .seen σ (s .old) (s .new) (s .holds) in
           let m = next σ (s .old) (s .new) d j p v more in
@@ -242,11 +242,11 @@ module _ (id : List ℕ) (n : ℕ) (d₀ : List ℕ) (len k count : ℕ) where
               place = end;
             }
 
-        pub stamping-on : Stamping d′ (j + 1) p′
-        stamping-on = record { room = s .room ∙ w .room; seen = λ σ old new h. seen-on σ old new (w .seen σ old new h) }
+        pub numbering-on : Numbering d′ (j + 1) p′
+        numbering-on = record { room = s .room ∙ w .room; seen = λ σ old new h. seen-on σ old new (w .seen σ old new h) }
 
-    pub stamping-end : count ≤ j → Renumbers (map set) d₀ len k d
-    stamping-end z =
+    pub numbering-end : count ≤ j → Renumbers (map set) d₀ len k d
+    numbering-end z =
         record {
           room = w .room;
           does = λ σ old new h.

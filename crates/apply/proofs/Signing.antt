@@ -39,7 +39,7 @@ use Rattle.apply.specs.declared.Done.{Done}
 use Rattle.apply.specs.contract.Scratch.{Holds, Scratch}
 use Rattle.apply.specs.contract.Update.{codesOf, UpdatedAs}
 use Rattle.apply.specs.contract.Community.{CommunityDone}
-use Rattle.apply.specs.contract.Effect.{Signing, numbered, Writes, Renumbered, Leaves, Effects, statusesOf, Codes, Effected}
+use Rattle.apply.specs.contract.Effect.{Signing, numberMoved, Writes, Renumbered, WritesEffect, Effects, statusesOf, Codes, Effected}
 use Rattle.apply.proofs.Edits.{set-number-law}
 
 -- "The largest image is 33,717 octets."
@@ -68,13 +68,13 @@ module _ {q : Request} {w : Signer} {image next : List ℕ} (oi : Octets image) 
     held : encode σ ≡ image
     held = encode-decode image σ oi d
 
-    number-in : placed image (placeOf image i) (encodeNumber (some (q .number))) ≡ encode (numbered q w σ)
+    number-in : placed image (placeOf image i) (encodeNumber (some (q .number))) ≡ encode (numberMoved q w σ)
     number-in =
         ap (λ (m : List ℕ). placed m (placeOf m i) (encodeNumber (some (q .number)))) (sym held)
         ∙ set-number-law σ (decode-wellFormed image σ d) i (q .number) inside-of
 
-    valid-after : wellFormed (numbered q w σ) ≡ true
-    valid-after = store-valid (numbered q w σ) (valid-withNumber i (q .number) σ (g .small) (valid-store σ (decode-wellFormed image σ d)))
+    valid-after : wellFormed (numberMoved q w σ) ≡ true
+    valid-after = store-valid (numberMoved q w σ) (valid-withNumber i (q .number) σ (g .small) (valid-store σ (decode-wellFormed image σ d)))
 
     place-room : placeOf image i + 9 ≤ length image
     place-room =
@@ -147,7 +147,7 @@ module _ (s : List ℕ) (q : Request) (w : Signer) (image : List ℕ) {empty wor
   pub community-effects : {next next′ : List ℕ} → next′ ≡ placed next 0 (take (done .len) work′) → Effects (communityEffect s q) q w image next done next′
   community-effects c σ d =
       let h = written-holds (r σ d) room in
-      record { status = u .status (numbered q w σ) h; writes = copied (u .store (numbered q w σ) h) c }
+      record { status = u .status (numberMoved q w σ) h; writes = copied (u .store (numberMoved q w σ) h) c }
 
 -- Update
 module _ (s : List ℕ) (q : Request) {n : ℕ} (counts : n ≡ length (inside s (q .updates))) where
@@ -176,20 +176,20 @@ module _ (s : List ℕ) (q : Request) (rights : Rights) (w : Signer) (image : Li
         let h = written-holds (r σ d) room in
         record {
           status = rw (le-ltb maxUpdates (length (entriesIn s (q .updates))) few, updateEffect);
-          writes = copied (u .store (numbered q w σ) h) c;
+          writes = copied (u .store (numberMoved q w σ) h) c;
         }
 
     pub few-codes : q .kind ≡ Update → Codes s q rights w image codes codes′
     unfolding statusesOf
     few-codes k σ d =
-        rw (k, le-ltb maxUpdates (length (entriesIn s (q .updates))) few, statusesOf) (u .statuses (numbered q w σ) (written-holds (r σ d) room))
+        rw (k, le-ltb maxUpdates (length (entriesIn s (q .updates))) few, statusesOf) (u .statuses (numberMoved q w σ) (written-holds (r σ d) room))
 
 -- by the message's type
 pub no-codes : (s : List ℕ) (q : Request) (rights : Rights) (w : Signer) (image : List ℕ) {kind : TampType} → q .kind ≡ kind
     → ((σ : Store) → statusesOf kind s q rights σ ≡ []) → (codes : List ℕ) → Codes s q rights w image codes codes
 no-codes s q rights w image k e codes σ d =
     subst (λ (l : List Status). codes ≡ placed codes 0 (codesOf l))
-    (sym (e (numbered q w σ)) ∙ ap (λ (kind : TampType). statusesOf kind s q rights (numbered q w σ)) (sym k))
+    (sym (e (numberMoved q w σ)) ∙ ap (λ (kind : TampType). statusesOf kind s q rights (numberMoved q w σ)) (sym k))
     (sym (placed-nil codes 0))
 
 module _ (s : List ℕ) (q : Request) (rights : Rights) (w : Signer) (image : List ℕ) {next next′ : List ℕ} where
@@ -206,8 +206,8 @@ module _ (s : List ℕ) (q : Request) (rights : Rights) (w : Signer) (image : Li
   pub by-kind : {r : Done} {kind : TampType} (f : Store → Effect) → q .kind ≡ kind → ((σ : Store) → effectOf kind s q rights σ ≡ f σ)
       → Effects f q w image next r next′ → Effects (effectOf (q .kind) s q rights) q w image next r next′
   by-kind {r} f k e h σ d =
-      subst (λ (x : Effect). Leaves x next r next′)
-      (sym (e (numbered q w σ)) ∙ ap (λ (kind : TampType). effectOf kind s q rights (numbered q w σ)) (sym k))
+      subst (λ (x : Effect). WritesEffect x next r next′)
+      (sym (e (numberMoved q w σ)) ∙ ap (λ (kind : TampType). effectOf kind s q rights (numberMoved q w σ)) (sym k))
       (h σ d)
 
 -- by the rights that the code reads, which are the signer's at acceptance
@@ -226,7 +226,7 @@ pub effected : {s : List ℕ} {q : Request} {w : Signer} {image next codes : Lis
 unfolding effect
 effected {s} {q} {w} {image} {next} {codes} g {r} {next′} {codes′} h c =
     record {
-      does = λ σ d. subst (λ (x : Rights). Leaves (effectOf (q .kind) s q x (numbered q w σ)) next r next′) (rights-of g σ d) (h σ d);
+      does = λ σ d. subst (λ (x : Rights). WritesEffect (effectOf (q .kind) s q x (numberMoved q w σ)) next r next′) (rights-of g σ d) (h σ d);
       statuses = λ σ d.
-          subst (λ (x : Rights). codes′ ≡ placed codes 0 (codesOf (statusesOf (q .kind) s q x (numbered q w σ)))) (rights-of g σ d) (c σ d);
+          subst (λ (x : Rights). codes′ ≡ placed codes 0 (codesOf (statusesOf (q .kind) s q x (numberMoved q w σ)))) (rights-of g σ d) (c σ d);
     }

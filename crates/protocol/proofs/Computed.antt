@@ -104,7 +104,7 @@ computed-reply = tt
 unfoldable computed-tamp : Unit {0}
 unfolding
     Rattle.protocol.specs.Acceptance.foundStatus Rattle.protocol.specs.Acceptance.row-23 Rattle.protocol.specs.Target.blockNames
-    Rattle.protocol.specs.Target.entryNames Rattle.protocol.specs.Target.moduleNames Rattle.protocol.specs.Target.names
+    Rattle.protocol.specs.Target.entryNames Rattle.protocol.specs.Target.moduleNames Rattle.protocol.specs.Target.namesDevice
     Rattle.protocol.specs.Acceptance.messageContent Rattle.protocol.specs.Acceptance.row-11 Rattle.protocol.specs.Acceptance.tooLow
     Rattle.protocol.specs.Acceptance.row-21 Rattle.protocol.specs.Acceptance.judgedAt Rattle.protocol.specs.Acceptance.bySigner
     Rattle.protocol.specs.Acceptance.judgementOf Rattle.protocol.specs.Acceptance.judgement Rattle.protocol.specs.Call.row-202

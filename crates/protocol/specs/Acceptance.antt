@@ -29,7 +29,7 @@ use Rattle.message.specs.declared.Received.the-variants.{Asks, Refused}
 use Rattle.protocol.specs.declared.Judgement.{Judgement}
 use Rattle.protocol.specs.declared.Judgement.the-variants.{Refuses, Accepts}
 use Rattle.message.specs.Rows.{received}
-use Rattle.protocol.specs.Target.{names, isUnsupported}
+use Rattle.protocol.specs.Target.{namesDevice, isUnsupported}
 
 -- what the signer at a position may
 abbrev pub rightsAt : Store → ℕ → Rights
@@ -51,7 +51,7 @@ row-38 s q = appliesIf (isUnsupported (encoding s (q .target)))
 
 -- 23: device not named
 unfoldable pub row-23 : Store → List ℕ → Request → Fit
-row-23 σ s q = appliesIf (not (names (σ .device .hwType) (σ .device .serial) (σ .communities) (encoding s (q .target))))
+row-23 σ s q = appliesIf (not (namesDevice (σ .device .hwType) (σ .device .serial) (σ .communities) (encoding s (q .target))))
 
 -- "the message's type as source with the signed attributes other than content-type and message-digest"
 abbrev pub sourceOf : List ℕ → Element → Element → Content

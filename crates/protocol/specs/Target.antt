@@ -37,8 +37,8 @@ moduleNames hwType serial target m =
     same (contents target (field 0x06 target m)) hwType && anyOf (entryNames serial target) (inside target (field 0x30 target m))
 
 -- "allModules; a community in the store; or the same hwType with .."
-unfoldable pub names : List ℕ → List ℕ → List (List ℕ) → List ℕ → Bool
-names hwType serial communities target =
+unfoldable pub namesDevice : List ℕ → List ℕ → List (List ℕ) → List ℕ → Bool
+namesDevice hwType serial communities target =
     let t = root target in
     elim (eqb (t .tag) 0x83) [
       | true ↦ true

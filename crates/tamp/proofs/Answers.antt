@@ -14,7 +14,7 @@ use Rattle.octets.proofs.Placed.{placed-nil}
 use Rattle.protocol.specs.Call.{refused, answered, row-205, guarded, outcomeNumber, replyOf, nextOf, replyBuffer, nextBuffer}
 use Rattle.tamp.specs.declared.Answer.{Answer}
 use Rattle.tamp.specs.Left.{resultOf, resultFor, houseRefusal, answer}
-use Rattle.tamp.specs.contract.Answers.{Put}
+use Rattle.tamp.specs.contract.Reply.{Put}
 
 -- "both lengths 0, nothing written"
 pub refused-leaves : (status : Status) (reply next : List ℕ) → resultOf (houseRefusal status) reply next ≡ resultFor (refused status) reply next

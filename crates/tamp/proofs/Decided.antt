@@ -24,7 +24,7 @@ use Rattle.apply.specs.contract.Effect.{statusesIn, Effected}
 use Rattle.tamp.specs.declared.Answer.{Answer}
 use Rattle.tamp.specs.Left.{resultOf, resultFor, houseRefusal, answer}
 use Rattle.tamp.specs.contract.Given.{Stored, asJudgement, Does}
-use Rattle.tamp.specs.contract.Answers.{requestReply, replyWith, Sizes, Put}
+use Rattle.tamp.specs.contract.Reply.{requestReply, replyWith, Sizes, Put}
 use Rattle.tamp.proofs.Answers.{too-long, written}
 use Rattle.tamp.proofs.Replies.{given-lists, left-lists, request-reply, codes-written, some-codes, some-long, some-are, statuses-few}
 

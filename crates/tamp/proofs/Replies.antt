@@ -34,7 +34,7 @@ use Rattle.protocol.specs.Effect.{numberSet, withNumber, queryEffect, adjustEff
 use Rattle.protocol.proofs.Demand2.{steps-count}
 use Rattle.apply.specs.contract.Update.{codesOf}
 use Rattle.apply.specs.contract.Effect.{statusesOf, statusesIn}
-use Rattle.tamp.specs.contract.Answers.{kindReply, requestReply, Put}
+use Rattle.tamp.specs.contract.Reply.{kindReply, requestReply, Put}
 
 -- what a Query's response lists does not depend on numbers
 numberSet-identifiers : (i n : ℕ) (l : List Anchor) → map identifierOf (numberSet i n l) ≡ map identifierOf l

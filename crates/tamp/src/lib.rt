@@ -15,7 +15,7 @@ ghost use Rattle.store.specs.contract.Parts.{anchorCount};
 ghost use Rattle.protocol.specs.Call.{answerOf, guarded, refusalReply};
 ghost use Rattle.tamp.specs.Left.{resultOf, resultFor, Promise, houseRefusal as refusalOf, answer as answerWith};
 ghost use Rattle.tamp.specs.contract.Given.{Rooms, Stored, Known, asJudgement, Does};
-ghost use Rattle.tamp.specs.contract.Answers.{requestReply, replyWith, Sizes, Put};
+ghost use Rattle.tamp.specs.contract.Reply.{requestReply, replyWith, Sizes, Put};
 use accept::Acceptance;
 use apply::Done;
 use envelope::Refusal;

@@ -8,7 +8,7 @@ use Rattle.store.specs.Records.{recordsOf}
 use Rattle.protocol.specs.declared.Judgement.the-variants.{Accepts}
 use Rattle.protocol.specs.Acceptance.{refuseRequest, judgedAt}
 use Rattle.accept.specs.contract.Judged.{storeIn}
-use Rattle.accept.proofs.Rows.{weighed, weigh-refuses, weigh-accepts}
+use Rattle.accept.proofs.Rows.{by-status, weigh-refuses, weigh-accepts}
 use Rattle.accept.proofs.judge_at.Statement.{statement}
 use Rattle.accept.proofs.judge_at.Tie as tie
 
@@ -21,7 +21,7 @@ by-rows c below =
     let r23 = r11 .before .before in
     let r38 = r23 .before .before in
     let read = r38 .before .before in
-    weighed _ _ _ _ below
+    by-status _ _ _ _ below
     (read .before .signer-at .ensures)
     (read .target-octets .ensures)
     _

@@ -34,8 +34,8 @@ pub record Signing (q : Request) (w : Signer) (image next : List ℕ) : Type 0 w
   pub room : imageRoom ≤ length next
 
 -- "its number becomes the signer's"
-abbrev pub numbered : Request → Signer → Store → Store
-numbered q w σ = withNumber (w .position) (q .number) σ
+abbrev pub numberMoved : Request → Signer → Store → Store
+numberMoved q w σ = withNumber (w .position) (q .number) σ
 
 -- d with the image of σ written into it, r octets
 pub record Writes (σ : Store) (d : List ℕ) (r : ℕ) (d′ : List ℕ) : Type 0 where
@@ -45,15 +45,15 @@ pub record Writes (σ : Store) (d : List ℕ) (r : ℕ) (d′ : List ℕ) : Type
 
 -- .. of the image's store with the signer's number
 abbrev pub Renumbered : Request → Signer → List ℕ → List ℕ → ℕ → List ℕ → Type 0
-Renumbered q w image next r next′ = (σ : Store) → decode image ≡ some σ → Writes (numbered q w σ) next r next′
+Renumbered q w image next r next′ = (σ : Store) → decode image ≡ some σ → Writes (numberMoved q w σ) next r next′
 
 -- the status and the next store of an effect on that store
-pub record Leaves (e : Effect) (next : List ℕ) (r : Done) (next′ : List ℕ) : Type 0 where
+pub record WritesEffect (e : Effect) (next : List ℕ) (r : Done) (next′ : List ℕ) : Type 0 where
   pub status : r .status ≡ e .status
   pub writes : Writes (e .store) next (r .len) next′
 
 abbrev pub Effects : (Store → Effect) → Request → Signer → List ℕ → List ℕ → Done → List ℕ → Type 0
-Effects f q w image next r next′ = (σ : Store) → decode image ≡ some σ → Leaves (f (numbered q w σ)) next r next′
+Effects f q w image next r next′ = (σ : Store) → decode image ≡ some σ → WritesEffect (f (numberMoved q w σ)) next r next′
 
 -- the statuses that an Update's confirm lists; none where 17 is given for the message as a whole, and none of other messages
 unfoldable pub statusesOf : TampType → List ℕ → Request → Rights → Store → List Status
@@ -67,12 +67,12 @@ statusesOf SeqNumAdjust s q rights σ = []
 -- an octet for each of them
 abbrev pub Codes : List ℕ → Request → Rights → Signer → List ℕ → List ℕ → List ℕ → Type 0
 Codes s q rights w image codes codes′ =
-    (σ : Store) → decode image ≡ some σ → codes′ ≡ placed codes 0 (codesOf (statusesOf (q .kind) s q rights (numbered q w σ)))
+    (σ : Store) → decode image ≡ some σ → codes′ ≡ placed codes 0 (codesOf (statusesOf (q .kind) s q rights (numberMoved q w σ)))
 
 abbrev pub statusesIn : List ℕ → Request → ℕ → Store → List Status
 statusesIn s q i σ = statusesOf (q .kind) s q (rightsAt σ i) (withNumber i (q .number) σ)
 
 -- what the whole message does: the effect of the rule book, and an octet for each status of an entry
 pub record Effected (s : List ℕ) (q : Request) (w : Signer) (image next codes : List ℕ) (r : Done) (next′ codes′ : List ℕ) : Type 0 where
-  pub does : (σ : Store) → decode image ≡ some σ → Leaves (effect s q (w .position) σ) next r next′
+  pub does : (σ : Store) → decode image ≡ some σ → WritesEffect (effect s q (w .position) σ) next r next′
   pub statuses : (σ : Store) → decode image ≡ some σ → codes′ ≡ placed codes 0 (codesOf (statusesIn s q (w .position) σ))
