@@ -8,7 +8,7 @@
 #include <stdint.h>
 
 /* The version of this interface, raised whenever the struct, a room, an argument or the meaning of a number changes. */
-#define TAMP_INTERFACE_VERSION 1
+#define TAMP_INTERFACE_VERSION 2
 
 /* The rooms that a caller must lend, in octets. More is fine; less is answered TAMP_SMALL_BUFFER. */
 #define TAMP_REPLY_ROOM 10240
@@ -70,7 +70,8 @@ enum tamp_number {
     TAMP_LONG_REPLY = 205                       /* the reply would be too long (no message leads to it) */
 };
 
-/* What a call answers: a number (enum tamp_number), and how many octets of reply and next were written.
+/* What a call answers: a number (enum tamp_number), how many octets of reply and next were written, and where the message
+   broke.
 
    On a house refusal both lengths are 0 and no octet is written: the store stays the one that was given.
    On every other number the next store is written whole, and from then on it is the store. That holds for numbers that
@@ -79,11 +80,18 @@ enum tamp_number {
    Octets behind the lengths written stay as they were.
 
    0 for an Update says that the message was accepted, not that each entry was applied: the reply, a terse Update
-   Confirm, lists a status for each entry in the message's order. */
+   Confirm, lists a status for each entry in the message's order.
+
+   offset is for numbers 1, 2, 3, 4, 6, 7, 8 and 36; for all others it is 0. It counts from the message's first octet, for 36
+   too, and is the place of the first octet of the element that breaks the rule. An element that may not stand there is that
+   itself; for a missing part it is the element that lacks it, for an overrun the one that overruns, for a repeat or a wrong
+   order the later one. For octets behind the message's or the content's element it is the first of them. It is below
+   message_len, but for an empty message: 0. */
 struct tamp_answer {
     uint32_t number;
     uint64_t reply_len;
     uint64_t next_len;
+    uint64_t offset;
 };
 
 #ifdef __cplusplus

@@ -35,6 +35,6 @@ case $# in
 esac
 cd "$top"
 proved "$dir/log" check tamp_call tamp_list
-target/bin/tamp_call < "$dir/calls" | head -3 | tee "$dir/answer"
+target/bin/tamp_call < "$dir/calls" | head -4 | tee "$dir/answer"
 if grep -q '^bad call\|^status 20[1-5]$' "$dir/answer"; then exit 1; fi
 sed -n 's/^store //p' "$dir/answer" | xxd -r -p | target/bin/tamp_list

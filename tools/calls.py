@@ -1,18 +1,19 @@
 #!/usr/bin/env python3
 """Calls for the program tamp_call.
 
-    tools/calls.py CALLS.. [--program PROGRAM]    runs the calls of the files through PROGRAM and compares number, reply and store
+    tools/calls.py CALLS.. [--program PROGRAM]    runs the calls of the files through PROGRAM and compares number, offset, reply and store
     tools/calls.py CALLS OUTSIDE.. --gate         writes crates/tamp_call/stdin and stdout: of CALLS those of the paper and one for each
                                                   status and house refusal, then all of OUTSIDE (tools/outside_calls.py makes them)
 
-A file has one JSON object a line: name; message, image and verdict in hex; reply_room and next_room; status, reply in hex, and next in hex
-or same_next. PROGRAM is target/bin/tamp_call, as `rt check tamp_call` leaves it. A call that the program does not take (over its limits)
+A file has one JSON object a line: name; message, image and verdict in hex; reply_room and next_room; status and offset, reply in hex, and
+next in hex or same_next. PROGRAM is target/bin/tamp_call, as `rt check tamp_call` leaves it. A call that the program does not take (over its limits)
 is left out. Exit status 1 where a call differs, 2 for a bad file.
 """
 import argparse, sys
 import common
 
-FIELDS = 'name message image verdict reply_room next_room status reply '
+FIELDS = 'name message image verdict reply_room next_room status offset reply '
+LINES = 4  # that tamp_call prints for a call
 
 
 def frame(c):
@@ -25,7 +26,7 @@ def frame(c):
 def expected(c):
     refused = 201 <= c['status'] <= 205
     store = '' if refused else c['image'] if c.get('same_next') else c['next']
-    return [f"status {c['status']}", f"reply {c['reply'].upper() or '-'}", f"store {store.upper() or '-'}"]
+    return [f"status {c['status']}", f"offset {c['offset']}", f"reply {c['reply'].upper() or '-'}", f"store {store.upper() or '-'}"]
 
 
 def taken(c):
@@ -45,7 +46,7 @@ def gate(calls, outside):
             seen.add(c['status'])
     # 202, which the file may lack: a verdict with an octet too few
     c = chosen[0]
-    chosen.append({**c, 'verdict': c['verdict'][2:], 'status': 202, 'reply': ''})
+    chosen.append({**c, 'verdict': c['verdict'][2:], 'status': 202, 'offset': 0, 'reply': ''})
     print(len(chosen), 'calls, statuses', sorted(seen | {202}), 'and', len(outside), 'from outside, statuses', sorted({c['status'] for c in outside}))
     chosen += outside
     open(common.path('crates/tamp_call/stdin'), 'wb').write(b''.join(frame(c) for c in chosen))
@@ -54,9 +55,9 @@ def gate(calls, outside):
 
 def compare(calls, program):
     written = common.run(program, b''.join(frame(c) for c in calls)).splitlines()
-    wrong = abs(len(written) - 3 * len(calls))
+    wrong = abs(len(written) - LINES * len(calls))
     for i, c in enumerate(calls):
-        found = written[3 * i:3 * i + 3]
+        found = written[LINES * i:LINES * (i + 1)]
         if found != expected(c):
             wrong += 1
             print(c['name'], 'expected', [x[:60] for x in expected(c)], 'found', [x[:60] for x in found])

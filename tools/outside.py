@@ -6,9 +6,9 @@ What the program must write is said here from what was put in: the type, the sig
 the status and the offset of the element that breaks the rule (found with `openssl asn1parse`, or as the place of the octets that were put in).
 Keys and times differ at each run.
 """
-import hashlib, re
+import hashlib
 import common
-from outside_tools import (KINDS, Anchor, adjust, attribute, communities, content_info, ed25519, encode, openssl, query, right, signed,
+from outside_tools import (KINDS, Anchor, adjust, attribute, communities, content_info, ed25519, encode, place, query, right, signed,
                            signed_data as wrapped, univ, update)
 
 CASES = []
@@ -39,12 +39,7 @@ def refused(status, offset=0):
 
 # -- OpenSSL
 
-def places(message, depth):
-    """the offsets of the elements at a depth, behind the last element one level above it"""
-    printed = openssl('asn1parse', '-inform', 'DER', given=message).decode()
-    found = [(int(o), int(d)) for o, d in re.findall(r'^ *(\d+):d=(\d+)', printed, re.M)]
-    last = max(i for i, (o, d) in enumerate(found) if d == depth - 1)
-    return [o for o, d in found[last:] if d == depth]
+SIGNER_INFOS = 1, 0, 3
 
 
 def by_openssl():
@@ -62,11 +57,11 @@ def by_openssl():
     # certificates sent; a second signer; no signed attributes; no subjectKeyIdentifier; content not sent; another content type
     case(signed('statusQuery', '01', query(6, **everywhere), WITHOUT='-nocerts'), refused(5))
     two = signed('statusQuery', '01', query(6, **everywhere), SECOND='02')
-    case(two, refused(6, places(two, 4)[1]))
+    case(two, refused(6, place(two, *SIGNER_INFOS, 1)))
     bare = signed('statusQuery', '01', query(6, **everywhere), OPTIONS='-noattr')
-    case(bare, refused(7, places(bare, 4)[0]))
+    case(bare, refused(7, place(bare, *SIGNER_INFOS, 0)))
     named = signed('statusQuery', '01', query(6, **everywhere), WITHOUT='-keyid')
-    case(named, refused(6, places(named, 5)[0]))
+    case(named, refused(6, place(named, *SIGNER_INFOS, 0, 0)))
     case(signed('statusQuery', '01', query(6, **everywhere), WITHOUT='-nodetach'), refused(9))
     case(signed('1.2.840.113549.1.7.1', '01', query(6, **everywhere)), refused(18))
 

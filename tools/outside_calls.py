@@ -1,19 +1,21 @@
 #!/usr/bin/python3 -B
-"""outside_calls.py: prints calls with real keys and signatures for tools/calls.py, one JSON object a line.
+"""outside_calls.py: prints calls for tools/calls.py, one JSON object a line.
 
     tools/outside_calls.py | tools/calls.py /dev/stdin                   runs them through tamp_call and compares
     tools/outside_calls.py | tools/calls.py CALLS /dev/stdin --gate      puts them into the gate, behind those chosen from CALLS
 
 Each actor has a key pair of OpenSSL. python3-pyasn1-modules encodes the anchors, the messages' contents and the replies expected; OpenSSL
 signs, and gives the verdict with each anchor's key (`openssl cms`, and `openssl pkeyutl` for Ed25519, which `cms` of OpenSSL 3.0 lacks).
+Messages that break at a known place need no signature; the offset is found with `openssl asn1parse`, or is the place of the octets that were
+put in.
 The store expected is written down for each call. Keys, times and signatures differ at each run. Nothing is printed before all are made.
 """
 import base64, functools, hashlib, json, os, tempfile
 from typing import NamedTuple
 import common
 from outside_tools import (KINDS, Anchor, adjust, adjust_confirm, anchor_info, attribute, certificate, communities, community_confirm,
-                           content_info, decode, encode, error, is_ed25519, public_key, query, rfc5280, rfc5652, rfc6010, right, signed,
-                           signed_ed25519, status_response, univ, update, update_confirm, verifies)
+                           content_info, decode, encode, error, is_ed25519, place, public_key, query, rfc5280, rfc5652, rfc6010, right,
+                           signed, signed_data, signed_ed25519, status_response, univ, update, update_confirm, verifies)
 from pyasn1.type import char
 
 FOLDER = tempfile.TemporaryDirectory()
@@ -82,11 +84,12 @@ def verdict(message, store):
     return bytes(verifies(message.octets, key, certificate_file(key, message.identifier)) for key in keys)
 
 
-def call(name, message, before, status, reply=b'', after=None):
+def call(name, message, before, status, reply=b'', after=None, offset=0):
     """a call and its answer; without `after` the store stays"""
     left = {'next': image(after).hex()} if after else {'same_next': True}
     given = {'message': message.octets.hex(), 'image': image(before).hex(), 'verdict': verdict(message, before).hex()}
-    CALLS.append({'name': 'outside.' + name, **given, 'reply_room': 10240, 'next_room': 33717, 'status': status, 'reply': reply.hex(), **left})
+    CALLS.append({'name': 'outside.' + name, **given, 'reply_room': 10240, 'next_room': 33717, 'status': status, 'offset': offset,
+                  'reply': reply.hex(), **left})
 
 
 # -- the house: content types, an attribute, communities, rights, actors
@@ -177,27 +180,120 @@ def wrappers():
     call('indefinite lengths', sign(manager, kind, content, OPTIONS='-stream'), BASE, 1)
     call('an octet short', good._replace(octets=good.octets[:-1]), BASE, 1)
     refuse('not signed', Message(content_info(KINDS[kind], univ.Any(content))), kind, 29)
-    call('data', Message(content_info(rfc5652.id_data, univ.OctetString(content))), BASE, 2)
     data = str(rfc5652.id_data)
-    call('SignedData of version 1', sign(manager, data, content, WITHOUT='-keyid'), BASE, 3)
     refuse('content not sent', sign(manager, kind, content, WITHOUT='-nodetach'), kind, 9)
     refuse('signed data', sign(manager, data, content), data, 18)
     refuse('certificates sent', sign(manager, kind, content, WITHOUT='-nocerts'), kind, 5)
-    refuse('issuer and serial number', sign(manager, kind, content, WITHOUT='-keyid'), kind, 6)
-    refuse('no signed attributes', sign(manager, kind, content, OPTIONS='-noattr'), kind, 7)
-
-    signed_data = signed_data_of(good)
-    signed_data['signerInfos'][0]['unsignedAttrs'].append(attribute(HOUSE + '3.2', univ.OctetString(b'note')))
-    refuse('unsigned attributes', good._replace(octets=content_info(rfc5652.id_signedData, signed_data)), kind, 8)
-
-    refuse("another message's content", sign(manager, 'communityUpdate', adjust(**ref)), 'communityUpdate', 36)
     refuse('version 1', sign(manager, kind, query(version='v1', **ref)), kind, 31)
     refuse('verbose', sign(manager, kind, query(terse='verbose', **ref)), kind, 127, **ref)
     refuse('verbose, no signer', sign(stranger, 'update', update(entries=[('add', stranger)], terse='verbose', **ref)), 'update', 127, **ref)
 
 
-def signed_data_of(message):
-    outer, _ = decode(message.octets, rfc5652.ContentInfo())
+# -- messages that break at a known place, and the offset of it
+
+CONTENT_TYPE, SIGNED_DATA = (0,), (1, 0)
+VERSION, DIGESTS, E_CONTENT, SIGNER_INFOS = (*SIGNED_DATA, 0), (*SIGNED_DATA, 1), (*SIGNED_DATA, 2, 1, 0), (*SIGNED_DATA, 3)
+SIGNER_INFO = *SIGNER_INFOS, 0
+ATTRIBUTES, SIGNATURE, UNSIGNED = (*SIGNER_INFO, 3), (*SIGNER_INFO, 5), (*SIGNER_INFO, 6)
+
+
+def changed(octets, at, octet):
+    return octets[:at] + bytes([octet]) + octets[at + 1:]
+
+
+def exchanged(octets, former, later):
+    """two parts of the same length, each in the other's place"""
+    assert len(former) == len(later) and octets.index(former) < octets.index(later)
+    return octets.replace(former, b'\0' * len(former)).replace(later, former).replace(b'\0' * len(former), later)
+
+
+def breaks(name, octets, status, offset, kind='statusQuery'):
+    """a message that is refused by a row that has an offset: "Statuses 1, 2, 3 and 4 have no reply" """
+    call('broken: ' + name, Message(octets), BASE, status, error(kind, status) if status > 4 else b'', offset=offset)
+
+
+def broken_wrappers():
+    kind, content = 'statusQuery', query(number=4, **ALL)
+    good = sign(manager, kind, content).octets
+
+    # 1: an element's header, its contents, the order of its members, what stands behind it
+    breaks('no message', b'', 1, 0)
+    at = place(good, *SIGNER_INFO, 2)
+    breaks('a tag of two octets', changed(good, at, 0x3F), 1, at)
+    at = place(good, *SIGNATURE)
+    breaks('the signature overruns its SignerInfo', changed(good, at + 1, good[at + 1] + 1), 1, at)
+    at = place(good, *DIGESTS, 0, 0)
+    breaks('an OID that does not end', changed(good, at + 1 + good[at + 1], 0x81), 1, at)
+    hashes = signed_data_of(good)
+    hashes['digestAlgorithms'][1]['algorithm'] = univ.ObjectIdentifier('2.16.840.1.101.3.4.2.3')
+    octets = content_info(rfc5652.id_signedData, hashes)
+    octets = exchanged(octets, *map(encode, hashes['digestAlgorithms']))
+    breaks('a SET OF not sorted', octets, 1, place(octets, *DIGESTS, 1))
+    breaks('an octet behind the message', good + b'\0', 1, len(good))
+
+    # 2, 3 and 4
+    octets = content_info(rfc5652.id_data, univ.OctetString(content))
+    breaks('data', octets, 2, place(octets, *CONTENT_TYPE))
+    octets = sign(manager, str(rfc5652.id_data), content, WITHOUT='-keyid').octets
+    breaks('SignedData of version 1', octets, 3, place(octets, *VERSION))
+    at = place(good, *E_CONTENT)
+    breaks('eContent is a UTF8String', changed(good, at, 0x0C), 4, at)
+
+    # 6
+    none = signed_data_of(good)
+    none['signerInfos'].clear()
+    octets = content_info(rfc5652.id_signedData, none)
+    breaks('no SignerInfo', octets, 6, place(octets, *SIGNER_INFOS))
+    octets = sign(manager, kind, content, SECOND='02').octets
+    breaks('two SignerInfos', octets, 6, place(octets, *SIGNER_INFOS, 1))
+    octets = sign(manager, kind, content, WITHOUT='-keyid').octets
+    at = place(octets, *SIGNER_INFO, 0)
+    breaks('issuer and serial number, version 1', octets, 6, at)
+    breaks('issuer and serial number, version 3', changed(octets, at + 2, 3), 6, place(octets, *SIGNER_INFO, 1))
+
+    # 7
+    octets = sign(manager, kind, content, OPTIONS='-noattr').octets
+    breaks('no signed attributes', octets, 7, place(octets, *SIGNER_INFO))
+    octets = signed_data(kind, manager.identifier, content, digest=False)
+    breaks('no message-digest', octets, 7, place(octets, *ATTRIBUTES))
+    at = place(good, *ATTRIBUTES, 0, 1, 0)
+    breaks('content-type unequal', changed(good, at + 1 + good[at + 1], 9), 7, at)
+    first, second = (attribute(SITE, univ.Integer(n)) for n in (1, 2))
+    octets = signed_data(kind, manager.identifier, content, [first, second])
+    breaks('an attribute repeated', octets, 7, octets.index(encode(second)))
+    first, second = (attribute(HOUSE + n, univ.Integer(1)) for n in ('3.1', '3.2'))
+    octets = exchanged(signed_data(kind, manager.identifier, content, [first, second]), encode(first), encode(second))
+    breaks('attributes not sorted', octets, 7, octets.index(encode(first)))
+
+    # 8
+    octets = signed_data(kind, manager.identifier, content, unsigned=[attribute(HOUSE + '3.2', univ.OctetString(b'note'))])
+    breaks('unsigned attributes', octets, 8, place(octets, *UNSIGNED))
+
+
+def broken_contents():
+    """36: counted in the whole message"""
+    kind, content = 'statusQuery', query(number=4, **ALL)
+
+    def within(name, octets, offset, kind=kind):
+        message = signed_data(kind, manager.identifier, octets)
+        breaks(name, message, 36, message.index(octets) + offset, kind)
+
+    at = place(content, 1, 0)
+    within('a target that is no alternative', changed(content, at, 0x86), at)
+    within('an empty list of hardware modules', changed(content, at, 0xA1), at)
+    within('the updates are missing', adjust(number=4, **ALL), 0, 'communityUpdate')
+    at = place(content, 1, 1)
+    within('the number is an OCTET STRING', changed(content, at, 4), at)
+    within('the number overruns its TAMPMsgRef', changed(content, at + 1, 2), at)
+    first = place(content, 0)
+    within('the first field may not stand there; the number overruns, a rule of status 1', changed(changed(content, first, 0x87), at + 1, 2), at)
+    within('an octet behind the content', content + b'\0', len(content))
+    message = signed_data(kind, manager.identifier, b'')
+    breaks('no content', message, 36, place(message, *E_CONTENT))
+
+
+def signed_data_of(octets):
+    outer, _ = decode(octets, rfc5652.ContentInfo())
     return decode(outer['content'], rfc5652.SignedData())[0]
 
 
@@ -257,7 +353,7 @@ def acceptance():
     carrier = manager._replace(rights=[right(kind, source=False)])
     refuse('carrier only', good, kind, 11, Store([(apex, 9), (carrier, None)]), **ref)
     # the signing time that OpenSSL put in, as a signed attribute that the entry limits
-    times = [a['attrValues'][0] for a in signed_data_of(good)['signerInfos'][0]['signedAttrs'] if str(a['attrType']) == SIGNING_TIME]
+    times = [a['attrValues'][0] for a in signed_data_of(good.octets)['signerInfos'][0]['signedAttrs'] if str(a['attrType']) == SIGNING_TIME]
     other = encode(univ.Integer(0))
     timed = manager._replace(rights=[right(kind, limits=[(SIGNING_TIME, [bytes(times[0]), other])])])
     answer = status_response([apex.identifier, manager.identifier], [], **ref)
@@ -364,7 +460,7 @@ def community_updates():
         call(name, message, BASE, status, community_confirm(status, **ref), base(4)._replace(communities=left))
 
 
-for part in (run, wrappers, acceptance, paper, updates, community_updates):
+for part in (run, wrappers, broken_wrappers, broken_contents, acceptance, paper, updates, community_updates):
     part()
     common.say(len(CALLS), 'calls so far')
 for c in CALLS:

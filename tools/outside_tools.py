@@ -1,7 +1,7 @@
 """The two outside tools as functions, for the scripts that make the programs' input: Debian's python3-pyasn1-modules encodes anchors,
 messages and replies (RFC 5914, 6010, 5934, 5652), OpenSSL signs and verifies. Nothing here reads or writes DER by itself.
 """
-import functools, hashlib, os, subprocess, sys, tempfile
+import functools, hashlib, os, re, subprocess, sys, tempfile
 from typing import NamedTuple
 import common
 try:
@@ -259,6 +259,18 @@ def openssl(*words, given=None):
     return done.stdout if done.returncode == 0 else None
 
 
+def place(octets, *path):
+    """the offset of an element, as `openssl asn1parse` prints it; path: its position among the members of the one above it, and so on from the
+    outermost element's members down"""
+    printed = openssl('asn1parse', '-inform', 'DER', given=octets).decode()
+    elements = [(int(offset), int(depth)) for offset, depth in re.findall(r'^ *(\d+):d=(\d+)', printed, re.M)]
+    for depth, position in enumerate(path, 1):
+        end = next((i for i, (_, d) in enumerate(elements[1:], 1) if d < depth), len(elements))
+        members = [i for i in range(1, end) if elements[i][1] == depth]
+        elements = elements[members[position]:end]
+    return elements[0][0]
+
+
 def script(name, *words, environment):
     """what tools/NAME prints"""
     done = subprocess.run([common.path('tools', name), *words], env={**os.environ, **environment}, stdout=subprocess.PIPE)
@@ -292,6 +304,8 @@ def verifies_ed25519(message, key_file):
     try:
         s = decode(decode(message, rfc5652.ContentInfo())[0]['content'], rfc5652.SignedData())[0]
     except PyAsn1Error:
+        return False
+    if not len(s['signerInfos']):
         return False
     i = s['signerInfos'][0]
     if str(i['signatureAlgorithm']['algorithm']) != ED25519:

@@ -1,6 +1,6 @@
 -- Laws of `andThen`, `held` and `each`: what a loop over a run of elements does at each turn.
 use Prim.Native.Nat.{ℕ, _≤_, _<_}
-use mathlib.Core.Bool.{Bool, true, false, not}
+use mathlib.Core.Bool.{Bool, true, false, not, false≢true}
 use mathlib.Core.List.{List}
 use mathlib.Core.Path.{_≡_, refl, sym, ap, _∙_}
 use native.Mathlib.Omega.{arith}
@@ -13,9 +13,13 @@ use Rattle.der.specs.declared.Fit.{Fit}
 use Rattle.der.specs.declared.Fit.the-variants.{Fits, Breaks}
 use Rattle.der.specs.Element.{elementAt, elements}
 use Rattle.der.specs.contract.Reading.{nextAt}
-use Rattle.der.specs.Fit.{andThen, held, eachFrom, each, appliesIf, givenAt}
+use Rattle.der.specs.Fit.{andThen, held, kept, eachFrom, each, appliesIf, givenAt}
 use Rattle.der.proofs.Elements.{valid-within, elements-end, elements-broken, elements-turn}
 use Rattle.der.proofs.Runs.{next-valid, run-turn}
+
+-- kept or broken
+pub breaks≢fits : {o : ℕ} → Breaks o ≡ Fits → ⊥
+breaks≢fits e = false≢true (ap kept e)
 
 pub then-fits : {f : Fit} (g : Fit) → f ≡ Fits → andThen f g ≡ g
 unfolding andThen
@@ -40,12 +44,17 @@ module _ {A : Type 0} where
 
 pub applies-not : (b : Bool) → appliesIf b ≡ Fits → b ≡ false
 unfolding appliesIf
-applies-not true h = absurd (let z : _≡_ {A = ℕ} 0 1 = cc in omega arith)
+applies-not true h = absurd (breaks≢fits h)
 applies-not false h = refl
 
 pub held-fits : (at : ℕ) {b : Bool} → b ≡ true → held at b ≡ Fits
 unfolding held
 held-fits at e = rw e
+
+pub held-true : (at : ℕ) (b : Bool) → held at b ≡ Fits → b ≡ true
+unfolding held
+held-true at true e = refl
+held-true at false e = absurd (breaks≢fits e)
 
 pub held-breaks : (at : ℕ) {b : Bool} → b ≡ false → held at b ≡ Breaks at
 unfolding held

@@ -7,5 +7,6 @@ pub mod Keys
 pub mod Fits
 pub mod Leaves
 pub mod Checks
+pub mod Charged
 pub mod Writes
 pub mod Examples

@@ -1,10 +1,12 @@
 -- A run of elements as a loop reads it, one element a turn.
-use Prim.Native.Nat.{ℕ, _+_, _-_, _≤_, _<_}
+use Prim.Native.Nat.{ℕ, zero, suc, _+_, _-_, _≤_, _<_}
 use native.Mathlib.Omega.{arith}
 use mathlib.Core.Bool.{true, false, true≢false}
 use mathlib.Core.List.{List, [], _∷_, _++_, append-assoc}
 use lib.ListN.{length}
-use mathlib.Core.Path.{_≡_, sym, ap, _∙_}
+use mathlib.Core.Path.{_≡_, refl, sym, ap, _∙_}
+use lib.Dec.{ltb}
+use borrow.Author.Tests.{ltb-true, ltb-false}
 use Rattle.octets.proofs.Lists.{by-test}
 use Rattle.der.specs.declared.Element.{Element}
 use Rattle.der.specs.Element.{lengthAt, contentsAt, elementAt, elements}
@@ -45,6 +47,27 @@ module _ (s : List ℕ) (at stop : ℕ) {e : Element} (q : e ≡ elementAt s at 
 -- what is left to be read falls with each turn
 pub run-less : (s : List ℕ) (at stop n : ℕ) {e : Element} → e ≡ elementAt s at stop → at < stop → n ≡ nextAt e stop → stop - n < stop - at
 run-less s at stop n q l m = omega (arith, run-on s at stop q l m)
+
+-- what holds at the end of a run, where no element stands, and at an element if it holds after it, holds of every run
+module _ (s : List ℕ) (stop : ℕ) (P : ℕ → Type 0) (none : (at : ℕ) → stop ≤ at → P at)
+    (broken : (at : ℕ) → at < stop → elementAt s at stop .valid ≡ false → P at)
+    (turn : (at : ℕ) → elementAt s at stop .valid ≡ true → P (elementAt s at stop .stop) → P at) where
+  by-fuel : (n at : ℕ) → stop - at ≤ n → P at
+  by-fuel zero at l = none at (omega arith)
+  by-fuel (suc n) at l =
+      let e = elementAt s at stop in
+      by-test (ltb at stop)
+      (λ t.
+      by-test (e .valid)
+      (λ g.
+      let w = valid-within s at stop refl g in
+      let m = ltb-true at stop t in
+      turn at g (by-fuel n (e .stop) (omega arith)))
+      (λ g. broken at (ltb-true at stop t) g))
+      (λ t. none at (ltb-false at stop t))
+
+  pub by-run : (at : ℕ) → P at
+  by-run at = by-fuel (stop - at) at (omega arith)
 
 -- an element stands alike in each window that it does not pass
 pub element-window : (s : List ℕ) (at stop w : ℕ) {e : Element} → e ≡ elementAt s at stop → e .valid ≡ true → e .stop ≤ w → w ≤ length s → elementAt s at w ≡ e

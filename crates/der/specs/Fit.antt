@@ -1,6 +1,6 @@
 -- Keeping a rule, or the first break of it. 02, E3: elements are read front to back; the first break counts.
--- The place in `Breaks` serves E3 alone: it is the offset of the element that is charged. 01 asks only whether a rule breaks; who reads a definition with 01
--- alone beside it may pass over every place (`at`, `outer`, `charged`).
+-- The place in `Breaks` serves E3 alone: it is the offset of the element that is charged (protocol, specs/Offset, has the rule). 01 asks only whether a rule
+-- breaks; who reads a definition with 01 alone beside it may pass over every place (`at`, `outer`, `charged`).
 use Prim.Native.Nat.{ℕ}
 use mathlib.Core.Bool.{Bool, true, false}
 use mathlib.Core.List.{List, [], _∷_}

@@ -3,6 +3,7 @@ pub mod Fit
 pub mod Contents
 pub mod Check
 pub mod Keys
+pub mod Identifier
 pub mod Write
 pub mod Oid
 pub mod contract

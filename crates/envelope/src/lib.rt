@@ -207,8 +207,10 @@ fn each_attribute(about: &[u8], s: &[u8], attributes: Element) -> Fit
         if let Fit::Breaks(o) = attribute_fit(about, s, e) {
             return Fit::Breaks(o);
         }
+        // 02, E3: of a repeat or a wrong order the later is charged
+        let later = e.at;
         if !is_in_place(s, former, e, first) {
-            return Fit::Breaks(e.at);
+            return Fit::Breaks(later);
         }
         at = e.stop;
         former = e;
@@ -303,8 +305,9 @@ fn has_certificates(s: &[u8], signed: Element) -> bool
 fn is_absent(e: Element) -> Fit
     ensures { λ r. ⌜ r ≡ held (e .at) (not (e .valid)) ⌝ }
 {
+    let charged = e.at;
     if e.valid {
-        return Fit::Breaks(e.at);
+        return Fit::Breaks(charged);
     }
     Fit::Fits
 }

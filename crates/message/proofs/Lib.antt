@@ -3,3 +3,4 @@ pub mod Entries
 pub mod Asked
 pub mod Fields
 pub mod Rows
+pub mod Charged

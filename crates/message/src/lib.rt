@@ -67,13 +67,14 @@ fn content_fit(s: &[u8], w: Signed) -> Fit
 {
     let content = envelope::e_content(s, w);
     let e = w.content;
+    let start = e.start;
     let kind = w.kind;
     let fit = body_fit(kind, content);
     let Fit::Breaks(o) = fit else {
         return fit;
     };
     if o < content.len() {
-        return Fit::Breaks(e.start + o);
+        return Fit::Breaks(start + o);
     }
     Fit::Breaks(e.at)
 }

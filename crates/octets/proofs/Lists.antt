@@ -1,4 +1,4 @@
--- Laws of the tests on lists (specs/Lists) and of `same`, `member` and `distinct` (specs/Octets).
+-- Laws of the tests on lists and of membership (specs/Lists), and of `same`, `member` and `distinct` (specs/Octets).
 use Prim.Native.Nat.{ℕ, _≤_, _<_}
 use native.Mathlib.Omega.{arith}
 use mathlib.Core.Bool.{Bool, true, false, not, _&&_, _||_, and-eq-true-iff, true≢false, false≢true}
@@ -7,7 +7,7 @@ use mathlib.Core.Path.{_≡_, refl, sym, _∙_, ap, ap₂}
 use lib.ListN.{length}
 use lib.Dec.{eqb}
 use borrow.Author.Tests.{eqb-true, eq-eqb}
-use Rattle.octets.specs.Lists.{allOf, anyOf, filter, distinctBy}
+use Rattle.octets.specs.Lists.{allOf, anyOf, filter, distinctBy, Among, first, later}
 use Rattle.octets.specs.Octets.{same, member, distinct}
 
 -- a test has one of two answers, and each case knows which
@@ -166,3 +166,15 @@ distinct-parts k l h =
     by-test (member k l)
     (λ t. absurd (true≢false (sym h ∙ distinct-first k l ∙ rw t)))
     (λ t. (t, sym (distinct-first k l ∙ rw t) ∙ h))
+
+-- what stands in a list: in none, as the first or a later one, in a list of one
+
+pub among-none : {A : Type 0} {x : A} → Among x [] → ⊥
+among-none = elim [ ]
+
+pub among-either : {A X : Type 0} {x y : A} {l : List A} → Among x (y ∷ l) → (x ≡ y → X) → (Among x l → X) → X
+among-either first f g = f refl
+among-either (later i) f g = g i
+
+pub among-one : {A : Type 0} {x y : A} → Among x (y ∷ []) → x ≡ y
+among-one i = among-either i (λ q. q) (λ j. absurd (among-none j))

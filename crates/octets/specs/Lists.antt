@@ -1,4 +1,4 @@
--- Tests on lists that compute.
+-- Tests on lists that compute, and membership.
 use mathlib.Core.Bool.{Bool, true, false, not, _&&_, _||_}
 use mathlib.Core.List.{List, [], _∷_}
 
@@ -22,3 +22,8 @@ module _ {A : Type 0} where
   unfoldable pub distinctBy : (A → A → Bool) → List A → Bool
   distinctBy f [] = true
   distinctBy f (x ∷ l) = not (anyOf (f x) l) && distinctBy f l
+
+-- it stands in the list
+pub data Among {A : Type 0} (x : A) : List A → Type 0 where
+  first : {l : List A} → Among x (x ∷ l)
+  later : {y : A} {l : List A} → Among x l → Among x (y ∷ l)

@@ -29,45 +29,45 @@ use Rattle.protocol.specs.Call.{Outcome, refused, answered, answerOf, gu
 use Rattle.protocol.proofs.Lists.{given-next}
 
 -- a refusal is no answer, and no acceptance
-pub refused≢answered : {n : Status} {status : Status} {reply next : List ℕ} → refused n ≡ answered status reply next → ⊥
+pub refused≢answered : {n : Status} {status : Status} {offset : ℕ} {reply next : List ℕ} → refused n ≡ answered status offset reply next → ⊥
 refused≢answered e = let z : _≡_ {A = Bool} true false = cc in true≢false z
 
 pub Refuses≢Accepts : {r : Refusal} {q : Request} {i : ℕ} → Refuses r ≡ Accepts q i → ⊥
 Refuses≢Accepts e = let z : _≡_ {A = Bool} true false = cc in true≢false z
 
-module _ (s image verdict : List ℕ) (replyLent nextLent : ℕ) {status : Status} {reply next : List ℕ} where
+module _ (s image verdict : List ℕ) (replyLent nextLent : ℕ) {status : Status} {offset : ℕ} {reply next : List ℕ} where
   -- the answer of a call that no house refusal ended
-  answer-of : (σ : Store) → callOn σ s image verdict replyLent nextLent ≡ answered status reply next
-      → answerOf s image σ (judgement σ verdict s) ≡ answered status reply next
+  answer-of : (σ : Store) → callOn σ s image verdict replyLent nextLent ≡ answered status offset reply next
+      → answerOf s image σ (judgement σ verdict s) ≡ answered status offset reply next
   unfolding callOn guarded
   answer-of σ e = house _ _ _ (house _ _ _ (house _ _ _ (house _ _ _ e)))
     where
-      house : (b : Bool) (n : Status) (o : Outcome) → givenIf b (refused n) o ≡ answered status reply next → o ≡ answered status reply next
+      house : (b : Bool) (n : Status) (o : Outcome) → givenIf b (refused n) o ≡ answered status offset reply next → o ≡ answered status offset reply next
       house b n o e = given-next b (refused n) o refused≢answered e
 
   -- it read a store from the image
-  pub answered-store : call s image verdict replyLent nextLent ≡ answered status reply next → (σ : Store) × (decode image ≡ some σ)
+  pub answered-store : call s image verdict replyLent nextLent ≡ answered status offset reply next → (σ : Store) × (decode image ≡ some σ)
   unfolding call callOf
   answered-store e = go (decode image) refl e
     where
-      go : (o : Option Store) → decode image ≡ o → callOf o s image verdict replyLent nextLent ≡ answered status reply next → (σ : Store) × (decode image ≡ some σ)
+      go : (o : Option Store) → decode image ≡ o → callOf o s image verdict replyLent nextLent ≡ answered status offset reply next → (σ : Store) × (decode image ≡ some σ)
       go none d a = absurd (refused≢answered a)
       go (some σ) d a = (σ, d)
 
   -- its two cases
-  pub by-answer : {P : Type 0} (σ : Store) → decode image ≡ some σ → call s image verdict replyLent nextLent ≡ answered status reply next
+  pub by-answer : {P : Type 0} (σ : Store) → decode image ≡ some σ → call s image verdict replyLent nextLent ≡ answered status offset reply next
       → (next ≡ image → P)
       → ((q : Request) (i : ℕ) → judgement σ verdict s ≡ Accepts q i → next ≡ encode (effect s q i σ .store) → P)
       → P
   unfolding call callOf answerOf
   by-answer {P} σ d e f g = judged (judgement σ verdict s) refl (answer-of σ (rw d at e))
     where
-      judged : (j : Judgement) → judgement σ verdict s ≡ j → answerOf s image σ j ≡ answered status reply next → P
+      judged : (j : Judgement) → judgement σ verdict s ≡ j → answerOf s image σ j ≡ answered status offset reply next → P
       judged (Refuses r) t a = f (cc)
       judged (Accepts q i) t a = g q i t (cc)
 
   -- the reply of an accepted message is that of its effect
-  pub accepted-reply : (σ : Store) → decode image ≡ some σ → call s image verdict replyLent nextLent ≡ answered status reply next
+  pub accepted-reply : (σ : Store) → decode image ≡ some σ → call s image verdict replyLent nextLent ≡ answered status offset reply next
       → (q : Request) (i : ℕ) → judgement σ verdict s ≡ Accepts q i → reply ≡ effect s q i σ .reply
   unfolding call callOf answerOf
   accepted-reply σ d e q i j = let a = rw j at (answer-of σ (rw d at e)) in cc

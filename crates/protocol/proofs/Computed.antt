@@ -111,7 +111,7 @@ unfolding
     Rattle.protocol.specs.Call.row-203 Rattle.protocol.specs.Call.row-204 Rattle.protocol.specs.Call.row-205
     Rattle.protocol.specs.Call.refusalReply Rattle.protocol.specs.Call.answerOf Rattle.protocol.specs.Call.guarded
     Rattle.protocol.specs.Call.callOn Rattle.protocol.specs.Call.callOf Rattle.protocol.specs.Call.call
-    Rattle.protocol.specs.Call.outcomeNumber Rattle.protocol.specs.Call.replyOf Rattle.protocol.specs.Call.nextOf
+    Rattle.protocol.specs.Call.outcomeNumber Rattle.protocol.specs.Call.outcomeOffset Rattle.protocol.specs.Call.replyOf Rattle.protocol.specs.Call.nextOf
     Rattle.protocol.specs.Call.replyBuffer Rattle.protocol.specs.Call.nextBuffer Rattle.protocol.specs.Community.afterRemovals
     Rattle.protocol.specs.Community.afterAdditions Rattle.protocol.specs.Community.communityStatus
     Rattle.protocol.specs.Community.communitiesAfter Rattle.protocol.specs.Effect.numberSet Rattle.protocol.specs.Effect.withNumber
@@ -122,7 +122,8 @@ unfolding
     Rattle.protocol.specs.Examples.query6by02 Rattle.protocol.specs.Examples.queryElsewhere Rattle.protocol.specs.Examples.queryVerbose
     Rattle.protocol.specs.Examples.queryCut Rattle.protocol.specs.Examples.communityTwice Rattle.protocol.specs.Examples.addCertPath
     Rattle.protocol.specs.Examples.opensslSigned Rattle.protocol.specs.Messages.signedAttrs
-    Rattle.protocol.specs.Messages.signedMessage Rattle.protocol.specs.Messages.signedBy Rattle.protocol.specs.Messages.trustAnchorInfo
+    Rattle.protocol.specs.Messages.signerInfo Rattle.protocol.specs.Messages.signedContentInfo Rattle.protocol.specs.Messages.anyDigest Rattle.protocol.specs.Messages.anySignature
+    Rattle.protocol.specs.OffsetExamples.queryWith Rattle.protocol.specs.Messages.signedBy Rattle.protocol.specs.Messages.trustAnchorInfo
     Rattle.protocol.specs.Messages.contentConstraints Rattle.protocol.specs.PermitExamples.rows
     Rattle.protocol.specs.PermitExamples.seasonRows Rattle.protocol.specs.PermitExamples.image
     Rattle.protocol.specs.NotEmpty.image Rattle.protocol.specs.NotEmpty.enrols

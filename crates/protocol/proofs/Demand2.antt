@@ -102,5 +102,5 @@ effect-confirms s o q i σ v k n =
     subst (λ kind. Confirms s q (rightsAt σ i) (effectOf kind s q (rightsAt σ i) after .reply)) (sym k) (update-confirms s o q (rightsAt σ i) v after n)
 
 pub demand2 : Demand2
-demand2 s image verdict replyLent nextLent status reply next o os e σ d q i j k n =
+demand2 s image verdict replyLent nextLent status offset reply next o os e σ d q i j k n =
     rw (accepted-reply s image verdict replyLent nextLent σ d e q i j) (effect-confirms s o q i σ (signer-valid image σ os d i) k n)

@@ -41,9 +41,9 @@ module _ (content : Content) (σ : Store) (w : wellFormed σ ≡ true) (g : Inpu
   left-same : (next : List ℕ) → next ≡ encode σ → Unmoved content σ next
   left-same next e = record { store = σ; image = e; valid = w; kept = refl }
 
-  left-answered : (status : Status) (reply next : List ℕ) → outcome (encode σ) g ≡ answered status reply next → Unmoved content σ next
+  left-answered : (status : Status) (offset : ℕ) (reply next : List ℕ) → outcome (encode σ) g ≡ answered status offset reply next → Unmoved content σ next
   unfolding signerIn signerOf
-  left-answered status reply next e =
+  left-answered status offset reply next e =
       let d = decode-encode σ w in
       by-answer (g .message) (encode σ) (g .verdict) (g .replyLent) (g .nextLent) σ d e (left-same next)
       (λ q i j n.
@@ -60,7 +60,7 @@ module _ (content : Content) (σ : Store) (w : wellFormed σ ≡ true) (g : Inpu
     where
       go : (r : Outcome) → outcome (encode σ) g ≡ r → Unmoved content σ (storeAfter (encode σ) r)
       go (refused n) e = left-same (encode σ) refl
-      go (answered status reply next) e = left-answered status reply next e
+      go (answered status offset reply next) e = left-answered status offset reply next e
 
 -- over the list of calls
 pub left-after : (content : Content) (calls : List Inputs) (σ : Store) → wellFormed σ ≡ true → Unauthorised content (encode σ) calls

@@ -1,8 +1,10 @@
 pub mod Computed
 pub mod Examples
+pub mod OffsetExamples
 pub mod Lists
 pub mod Steps
 pub mod Answer
+pub mod Refusals
 pub mod Statuses
 pub mod WellFormed
 pub mod Records

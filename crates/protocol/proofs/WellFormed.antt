@@ -330,9 +330,9 @@ pub effect-wellFormed : (σ : Store) (s verdict : List ℕ) (q : Request) (i : �
 effect-wellFormed σ s verdict q i w o j = store-valid _ (valid-effect s q i σ o (accepted-asks σ s verdict j) (valid-store σ w))
 
 -- "The next store is written whole .. and is well-formed"
-pub next-decodes : (s image verdict : List ℕ) (replyLent nextLent : ℕ) (status : Status) (reply next : List ℕ) → Octets s
-    → call s image verdict replyLent nextLent ≡ answered status reply next → (σ : Store) × (decode next ≡ some σ)
-next-decodes s image verdict replyLent nextLent status reply next o e =
+pub next-decodes : (s image verdict : List ℕ) (replyLent nextLent : ℕ) (status : Status) (offset : ℕ) (reply next : List ℕ) → Octets s
+    → call s image verdict replyLent nextLent ≡ answered status offset reply next → (σ : Store) × (decode next ≡ some σ)
+next-decodes s image verdict replyLent nextLent status offset reply next o e =
     let (σ, d) = answered-store s image verdict replyLent nextLent e in
     by-answer s image verdict replyLent nextLent σ d e
     (λ n. (σ, ap decode n ∙ d))

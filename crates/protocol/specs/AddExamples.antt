@@ -18,6 +18,6 @@ answerTo t = call (enrols t) image (1 ∷ 1 ∷ []) replyRoom imageRoom
 abbrev pub BothSides : Type 0
 BothSides =
     (answerTo 0x01
-    ≡ answered success (octetsOf "30 0C 30 05 83 00 02 01 01 A0 03 0A 01 00") (encode (managed (some 1) (record { number = none; info = sampler 0x01 } ∷ []))))
+    ≡ answered success 0 (octetsOf "30 0C 30 05 83 00 02 01 01 A0 03 0A 01 00") (encode (managed (some 1) (record { number = none; info = sampler 0x01 } ∷ []))))
     × (answerTo 0x02
-    ≡ answered success (octetsOf "30 0C 30 05 83 00 02 01 01 A0 03 0A 01 0B") (encode (managed (some 1) [])))
+    ≡ answered success 0 (octetsOf "30 0C 30 05 83 00 02 01 01 A0 03 0A 01 0B") (encode (managed (some 1) [])))

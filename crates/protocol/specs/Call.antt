@@ -22,10 +22,10 @@ use Rattle.protocol.specs.declared.Judgement.the-variants.{Refuses, Acce
 use Rattle.protocol.specs.Acceptance.{judgement}
 use Rattle.protocol.specs.Effect.{effect}
 
--- a house refusal ("both lengths 0, nothing written"), or an answer with a TAMP status, the reply and the next store
+-- a house refusal ("both lengths 0, nothing written"), or an answer with a TAMP status, 02 E3's offset, the reply and the next store
 pub data Outcome : Type 0 where
   refused : (number : Status) → Outcome
-  answered : (status : Status) (reply next : List ℕ) → Outcome
+  answered : (status : Status) (offset : ℕ) (reply next : List ℕ) → Outcome
 
 -- 202: the verdict's length isn't the anchor count, or an octet is above 1
 unfoldable pub row-202 : Store → List ℕ → Bool
@@ -48,7 +48,7 @@ row-204 s = ltb maxMessage (length s)
 -- 205: the reply would pass 10,240 octets
 unfoldable pub row-205 : Outcome → Bool
 row-205 (refused number) = false
-row-205 (answered status reply next) = ltb replyNeeds (length reply)
+row-205 (answered status offset reply next) = ltb replyNeeds (length reply)
 
 -- "Statuses 1, 2, 3 and 4 have no reply (length 0). The rest reply with a TAMP Error, with msgRef from 127 on, without it before": what it repeats of the
 -- message stands in the refusal
@@ -56,10 +56,11 @@ unfoldable pub refusalReply : List ℕ → Refusal → List ℕ
 refusalReply s r =
     elim (r .msgtype .valid) [ true ↦ tampError (contents s (r .msgtype)) (r .status) (encoding s (r .msgref)) | false ↦ [] ]
 
--- "The next store is written whole (a copy where nothing changed)"; "These answers leave the store alone"; an accepted message writes its effect
+-- "The next store is written whole (a copy where nothing changed)"; "These answers leave the store alone"; an accepted message writes its effect. 02, E3: a
+-- refusal has the offset that its row found; an accepted message has none
 unfoldable pub answerOf : List ℕ → List ℕ → Store → Judgement → Outcome
-answerOf s image σ (Refuses r) = answered (r .status) (refusalReply s r) image
-answerOf s image σ (Accepts q i) = let e = effect s q i σ in answered (e .status) (e .reply) (encode (e .store))
+answerOf s image σ (Refuses r) = answered (r .status) (r .offset) (refusalReply s r) image
+answerOf s image σ (Accepts q i) = let e = effect s q i σ in answered (e .status) 0 (e .reply) (encode (e .store))
 
 -- 205, else the answer
 unfoldable pub guarded : Outcome → Outcome
@@ -82,18 +83,23 @@ callOf (some σ) s image verdict replyLent nextLent = callOn σ s image verdict 
 unfoldable pub call : List ℕ → List ℕ → List ℕ → ℕ → ℕ → Outcome
 call s image verdict replyLent nextLent = callOf (decode image) s image verdict replyLent nextLent
 
--- what the call returns and leaves: the number, the two lengths, and what the lent buffers hold ("octets after the written lengths stay")
+-- what the call returns and leaves: the number, the offset, the two lengths, and what the lent buffers hold ("octets after the written lengths stay")
 unfoldable pub outcomeNumber : Outcome → Status
 outcomeNumber (refused number) = number
-outcomeNumber (answered status reply next) = status
+outcomeNumber (answered status offset reply next) = status
+
+-- 02, E3: a house refusal has none
+unfoldable pub outcomeOffset : Outcome → ℕ
+outcomeOffset (refused number) = 0
+outcomeOffset (answered status offset reply next) = offset
 
 unfoldable pub replyOf : Outcome → List ℕ
 replyOf (refused number) = []
-replyOf (answered status reply next) = reply
+replyOf (answered status offset reply next) = reply
 
 unfoldable pub nextOf : Outcome → List ℕ
 nextOf (refused number) = []
-nextOf (answered status reply next) = next
+nextOf (answered status offset reply next) = next
 
 unfoldable pub replyBuffer : Outcome → List ℕ → List ℕ
 replyBuffer outcome lent = written lent (replyOf outcome)

@@ -50,8 +50,8 @@ pub record Confirms (s : List ℕ) (q : Request) (signer : Rights) (reply : List
 -- of any accepted Update of 16 entries at most: one of more has no confirm
 abbrev pub Demand2 : Type 0
 Demand2 =
-    (message image verdict : List ℕ) (replyLent nextLent : ℕ) (status : Status) (reply next : List ℕ) →
-    Octets message → Octets image → call message image verdict replyLent nextLent ≡ answered status reply next →
+    (message image verdict : List ℕ) (replyLent nextLent : ℕ) (status : Status) (offset : ℕ) (reply next : List ℕ) →
+    Octets message → Octets image → call message image verdict replyLent nextLent ≡ answered status offset reply next →
     (σ : Store) → decode image ≡ some σ → (q : Request) (i : ℕ) → judgement σ verdict message ≡ Accepts q i →
     q .kind ≡ Update → length (entriesOf message q) ≤ maxUpdates →
     Confirms message q (rightsAt σ i) reply

@@ -32,7 +32,7 @@ outcome image g = call (g .message) image (g .verdict) (g .replyLent) (g .nextLe
 -- "A call leaves its next store, or after a house refusal the store it was given."
 unfoldable pub storeAfter : List ℕ → Outcome → List ℕ
 storeAfter image (refused number) = image
-storeAfter image (answered status reply next) = next
+storeAfter image (answered status offset reply next) = next
 
 -- "The first call gets that store, each later one the store that the call before it left."
 unfoldable pub after : List ℕ → List Inputs → List ℕ
@@ -48,7 +48,7 @@ signerOf σ (Accepts q i) = some (rightsAt σ i)
 unfoldable pub signerIn : Option Store → Inputs → Outcome → Option Rights
 signerIn none g o = none
 signerIn (some σ) g (refused number) = none
-signerIn (some σ) g (answered status reply next) = signerOf σ (judgement σ (g .verdict) (g .message))
+signerIn (some σ) g (answered status offset reply next) = signerOf σ (judgement σ (g .verdict) (g .message))
 
 abbrev pub acceptedSigner : List ℕ → Inputs → Option Rights
 acceptedSigner image g = signerIn (decode image) g (outcome image g)

@@ -124,9 +124,9 @@ addCertPath =
 abbrev pub answer : List ℕ → List ℕ → Outcome
 answer message verdict = call message image verdict replyRoom imageRoom
 
--- an answer by number, reply and next store
-abbrev pub Answers : Outcome → ℕ → List ℕ → List ℕ → Type 0
-Answers o n reply next = o ≡ answered (record { number = n }) reply next
+-- an answer by number, offset, reply and next store
+abbrev pub Answers : Outcome → ℕ → ℕ → List ℕ → List ℕ → Type 0
+Answers o n offset reply next = o ≡ answered (record { number = n }) offset reply next
 
 -- verdicts: both anchors' keys verify, the apex's alone, neither
 abbrev pub both : List ℕ
@@ -141,14 +141,14 @@ neither = 0 ∷ 0 ∷ []
 -- P11: "stored 5: Query 5 gives 21, Query 6 and Adjust 5 pass."
 abbrev pub P11 : Type 0
 P11 =
-    Answers (answer query5 apexAlone) 21 (octetsOf "30 16 06 0A 60 86 48 01 65 02 01 02 4D 01 0A 01 15 30 05 83 00 02 01 05") image
-    × Answers (answer query6 apexAlone) 0 (octetsOf "30 11 30 05 83 00 02 01 06 A0 08 30 06 04 01 01 04 01 02") (imageAt 6)
-    × Answers (answer adjust5 apexAlone) 0 (octetsOf "30 0A 30 05 83 00 02 01 05 0A 01 00") image
+    Answers (answer query5 apexAlone) 21 0 (octetsOf "30 16 06 0A 60 86 48 01 65 02 01 02 4D 01 0A 01 15 30 05 83 00 02 01 05") image
+    × Answers (answer query6 apexAlone) 0 0 (octetsOf "30 11 30 05 83 00 02 01 06 A0 08 30 06 04 01 01 04 01 02") (imageAt 6)
+    × Answers (answer adjust5 apexAlone) 0 0 (octetsOf "30 0A 30 05 83 00 02 01 05 0A 01 00") image
 
 -- P12: the reply, and "the number becomes 6"
 abbrev pub P12 : Type 0
 P12 =
-    Answers (answer query6 apexAlone) 0 (octetsOf "30 11 30 05 83 00 02 01 06 A0 08 30 06 04 01 01 04 01 02")
+    Answers (answer query6 apexAlone) 0 0 (octetsOf "30 11 30 05 83 00 02 01 06 A0 08 30 06 04 01 01 04 01 02")
     (octetsOf "01 02 2A 03 01 07 02 01 00 00 00 00 00 00 00 06 00 12 30 10 30 0B 30 05 06 03 2B 65 70 03 02 00 AA 04 01 01"
     ++ octetsOf "00 00 00 00 00 00 00 00 00 00 12 30 10 30 0B 30 05 06 03 2B 65 70 03 02 00 BB 04 01 02 00")
 
@@ -165,15 +165,15 @@ Listings =
 -- Twelve more answers: 2 (the Query as a ContentInfo of type data), 3 (SignedData version 1), 7, 11, 16, 21, 23, 24, 34 for an entry, 36, 127, and 201 (an octet after the image).
 abbrev pub TwelveAnswers : Type 0
 TwelveAnswers =
-    Answers (answer (set query6 14 1) both) 2 [] image
-    × Answers (answer (set query6 25 1) both) 3 [] image
-    × Answers (answer unsignedAttributes both) 7 (octetsOf "30 0F 06 0A 60 86 48 01 65 02 01 02 4D 01 0A 01 07") image
-    × Answers (answer query6by02 both) 11 (octetsOf "30 16 06 0A 60 86 48 01 65 02 01 02 4D 01 0A 01 0B 30 05 83 00 02 01 06") image
-    × Answers (answer query6 neither) 16 (octetsOf "30 16 06 0A 60 86 48 01 65 02 01 02 4D 01 0A 01 10 30 05 83 00 02 01 06") image
-    × Answers (answer adjust4 both) 21 (octetsOf "30 16 06 0A 60 86 48 01 65 02 01 02 4D 0A 0A 01 15 30 05 83 00 02 01 04") image
-    × Answers (answer queryElsewhere both) 23 (octetsOf "30 16 06 0A 60 86 48 01 65 02 01 02 4D 01 0A 01 17 30 05 A2 00 02 01 06") image
-    × Answers (answer communityTwice both) 24 (octetsOf "30 0A 30 05 83 00 02 01 06 80 01 18") (imageAt 6)
-    × Answers (answer addCertPath both) 0 (octetsOf "30 0C 30 05 83 00 02 01 06 A0 03 0A 01 22") (imageAt 6)
-    × Answers (answer queryCut both) 36 (octetsOf "30 0F 06 0A 60 86 48 01 65 02 01 02 4D 01 0A 01 24") image
-    × Answers (answer queryVerbose both) 127 (octetsOf "30 16 06 0A 60 86 48 01 65 02 01 02 4D 01 0A 01 7F 30 05 83 00 02 01 06") image
+    Answers (answer (set query6 14 1) both) 2 4 [] image
+    × Answers (answer (set query6 25 1) both) 3 23 [] image
+    × Answers (answer unsignedAttributes both) 7 70 (octetsOf "30 0F 06 0A 60 86 48 01 65 02 01 02 4D 01 0A 01 07") image
+    × Answers (answer query6by02 both) 11 0 (octetsOf "30 16 06 0A 60 86 48 01 65 02 01 02 4D 01 0A 01 0B 30 05 83 00 02 01 06") image
+    × Answers (answer query6 neither) 16 0 (octetsOf "30 16 06 0A 60 86 48 01 65 02 01 02 4D 01 0A 01 10 30 05 83 00 02 01 06") image
+    × Answers (answer adjust4 both) 21 0 (octetsOf "30 16 06 0A 60 86 48 01 65 02 01 02 4D 0A 0A 01 15 30 05 83 00 02 01 04") image
+    × Answers (answer queryElsewhere both) 23 0 (octetsOf "30 16 06 0A 60 86 48 01 65 02 01 02 4D 01 0A 01 17 30 05 A2 00 02 01 06") image
+    × Answers (answer communityTwice both) 24 0 (octetsOf "30 0A 30 05 83 00 02 01 06 80 01 18") (imageAt 6)
+    × Answers (answer addCertPath both) 0 0 (octetsOf "30 0C 30 05 83 00 02 01 06 A0 03 0A 01 22") (imageAt 6)
+    × Answers (answer queryCut both) 36 59 (octetsOf "30 0F 06 0A 60 86 48 01 65 02 01 02 4D 01 0A 01 24") image
+    × Answers (answer queryVerbose both) 127 0 (octetsOf "30 16 06 0A 60 86 48 01 65 02 01 02 4D 01 0A 01 7F 30 05 83 00 02 01 06") image
     × (call query6 (image ++ (0 ∷ [])) both replyRoom imageRoom ≡ refused (record { number = 201 }))

@@ -4,9 +4,11 @@ pub mod Update
 pub mod Community
 pub mod Effect
 pub mod Call
+pub mod Offset
 pub mod Demand3
 pub mod Messages
 pub mod Examples
+pub mod OffsetExamples
 pub mod Demand2
 pub mod Permit
 pub mod PermitExamples

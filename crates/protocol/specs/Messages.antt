@@ -38,7 +38,7 @@ id-ecdsa-with-SHA256 = oid 1 2 (840 ∷ 10045 ∷ 4 ∷ 3 ∷ 2 ∷ [])
 abbrev pub id-Ed25519 : List ℕ
 id-Ed25519 = oid 1 3 (101 ∷ 112 ∷ [])
 
--- an Attribute: its type, and its one value as an element
+-- an Attribute: its type, and what its SET holds: one value, where it is well formed
 abbrev pub attribute : List ℕ → List ℕ → List ℕ
 attribute type value = sequence (objectIdentifier type ++ element 0x31 value)
 
@@ -57,26 +57,39 @@ unfoldable pub signedAttrs : List ℕ → List ℕ
 signedAttrs [] = []
 signedAttrs (x ∷ s) = element 0xA0 (x ∷ s)
 
--- A ContentInfo of SignedData, with one SignerInfo and the digest SHA-256: eContentType, eContent, the signer's subjectKeyIdentifier, the signed attributes one after the other, signatureAlgorithm and signature.
-unfoldable pub signedMessage : List ℕ → List ℕ → List ℕ → List ℕ → List ℕ → List ℕ → List ℕ
-signedMessage type content identifier attributes algorithm signature =
-    let digest = algorithmIdentifier id-sha256 in
-    let encapContentInfo = sequence (objectIdentifier type ++ element 0xA0 (octetString content)) in
-    let signerInfo =
+-- a SignerInfo with the digest SHA-256: subjectKeyIdentifier, the signed attributes one after the other, signatureAlgorithm, signature, and what stands behind it
+unfoldable pub signerInfo : List ℕ → List ℕ → List ℕ → List ℕ → List ℕ → List ℕ
+signerInfo identifier attributes algorithm signature rest =
     sequence
     (integer 3
-    ++ (element 0x80 identifier ++ (digest ++ (signedAttrs attributes ++ (algorithmIdentifier algorithm ++ octetString signature)))))
+    ++ (element 0x80 identifier
+    ++ (algorithmIdentifier id-sha256 ++ (signedAttrs attributes ++ (algorithmIdentifier algorithm ++ (octetString signature ++ rest))))))
+
+-- a ContentInfo of SignedData with the digest SHA-256: eContentType, eContent, and the SignerInfos one after the other
+unfoldable pub signedContentInfo : List ℕ → List ℕ → List ℕ → List ℕ
+signedContentInfo type content signerInfos =
+    let encapContentInfo = sequence (objectIdentifier type ++ element 0xA0 (octetString content)) in
+    let signedData =
+    sequence (integer 3 ++ (element 0x31 (algorithmIdentifier id-sha256) ++ (encapContentInfo ++ element 0x31 signerInfos)))
     in
-    let signedData = sequence (integer 3 ++ (element 0x31 digest ++ (encapContentInfo ++ element 0x31 signerInfo))) in
     sequence (objectIdentifier id-signedData ++ element 0xA0 signedData)
 
--- A message whose verdict is given, so that digest and signature stand for any: of the anchor with this key identifier, with this type and content, and with these attributes before the two that must be there.
+-- .. with one SignerInfo: eContentType, eContent, the signer's subjectKeyIdentifier, the signed attributes, signatureAlgorithm and signature
+abbrev pub signedMessage : List ℕ → List ℕ → List ℕ → List ℕ → List ℕ → List ℕ → List ℕ
+signedMessage type content identifier attributes algorithm signature =
+    signedContentInfo type content (signerInfo identifier attributes algorithm signature [])
+
+-- any digest and any signature, for messages whose verdict is given
+unfoldable pub anyDigest : List ℕ
+anyDigest = octetsOf "11 11 11 11 11 11 11 11 11 11 11 11 11 11 11 11 11 11 11 11 11 11 11 11 11 11 11 11 11 11 11 11"
+
+unfoldable pub anySignature : List ℕ
+anySignature = octetsOf "22 22 22 22 22 22 22 22"
+
+-- A message whose verdict is given: of the anchor with this key identifier, with this type and content, and with these attributes before the two that must be there.
 unfoldable pub signedBy : ℕ → List ℕ → List ℕ → List ℕ → List ℕ
 signedBy identifier type content attributes =
-    signedMessage type content (identifier ∷ [])
-    (attributes
-    ++ (contentType type ++ messageDigest (octetsOf "11 11 11 11 11 11 11 11 11 11 11 11 11 11 11 11 11 11 11 11 11 11 11 11 11 11 11 11 11 11 11 11")))
-    id-Ed25519 (octetsOf "22 22 22 22 22 22 22 22")
+    signedMessage type content (identifier ∷ []) (attributes ++ (contentType type ++ messageDigest anyDigest)) id-Ed25519 anySignature
 
 -- RFC 5934
 

@@ -14,11 +14,11 @@ use Rattle.der.specs.Element.{elementAt, inside, contents, constructed}
 use Rattle.der.specs.Contents.{contentsOk}
 use Rattle.der.specs.Fit.{held, each}
 use Rattle.der.specs.Check.{sortedIn, der, spans}
-use Rattle.der.proofs.Fits.{then-fits, held-fits}
+use Rattle.der.proofs.Fits.{breaks≢fits, then-fits, held-fits, held-true}
 use Rattle.der.proofs.Checks.{memberFit, der-bad, der-run, der-leaf}
 use Rattle.der.proofs.Bools.{on-true, on-false}
 use Rattle.syntax.proofs.Once.{not-zero}
-use Rattle.syntax.proofs.Each.{Every, every-member, each-weaker, then-both, held-true, breaks≢fits}
+use Rattle.syntax.proofs.Each.{Every, every-member, each-weaker, then-both}
 
 der-members : (d : ℕ) (s : List ℕ) (e : Element) → e .valid ≡ true → constructed (e .tag) ≡ true → der (suc d) s e ≡ each (memberFit d s (e .tag)) (inside s e)
 der-members d s e g c = let p : suc d - 1 ≡ d = omega arith in rw p at (der-run s e (suc d) (not-zero d) g c)

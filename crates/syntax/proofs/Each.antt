@@ -3,12 +3,13 @@ use Prim.Native.Nat.{ℕ}
 use mathlib.Core.Bool.{Bool, true, false, _&&_, false≢true}
 use mathlib.Core.List.{List, [], _∷_, map}
 use mathlib.Core.Path.{_≡_, refl, sym, ap, ap₂, _∙_}
-use Rattle.octets.specs.Lists.{allOf}
+use Rattle.octets.specs.Lists.{allOf, Among, first, later}
 use Rattle.octets.proofs.Lists.{both}
 use Rattle.der.specs.declared.Element.{Element}
 use Rattle.der.specs.declared.Fit.{Fit}
 use Rattle.der.specs.declared.Fit.the-variants.{Fits, Breaks}
 use Rattle.der.specs.Fit.{andThen, held, kept, eachFrom, each}
+use Rattle.der.proofs.Fits.{breaks≢fits, held-true}
 use Rattle.syntax.specs.Grammar.{byElement}
 
 module _ {A : Type 0} where
@@ -20,6 +21,15 @@ module _ {A : Type 0} where
   pub every-weaken : (P Q : A → Type 0) → ((x : A) → P x → Q x) → (l : List A) → Every P l → Every Q l
   every-weaken P Q f [] h = tt
   every-weaken P Q f (x ∷ l) h = (f x (h .0), every-weaken P Q f l (h .1))
+
+  -- .. and so has what stands in it
+  pub every-among : (P : A → Type 0) (l : List A) → Every P l → {x : A} → Among x l → P x
+  every-among P (x ∷ l) h first = h .0
+  every-among P (y ∷ l) h (later i) = every-among P l (h .1) i
+
+  pub among-every : (l : List A) → Every (λ x. Among x l) l
+  among-every [] = tt
+  among-every (x ∷ l) = (first, every-weaken (λ y. Among y l) (λ y. Among y (x ∷ l)) (λ y i. later i) l (among-every l))
 
   pub every-both : (P Q : A → Type 0) (l : List A) → Every P l → Every Q l → Every (λ x. P x × Q x) l
   every-both P Q [] h k = tt
@@ -39,9 +49,6 @@ every-map f Q (x ∷ l) h = (h .0, every-map f Q l (h .1))
 pub kept-fits : (f : Fit) → kept f ≡ true → f ≡ Fits
 kept-fits Fits e = refl
 kept-fits (Breaks o) e = absurd (false≢true e)
-
-pub breaks≢fits : {o : ℕ} → Breaks o ≡ Fits → ⊥
-breaks≢fits e = false≢true (ap kept e)
 
 pub kept-then : (f g : Fit) → kept (andThen f g) ≡ kept f && kept g
 unfolding andThen
@@ -76,9 +83,6 @@ pub then-both : (f g : Fit) → andThen f g ≡ Fits → (f ≡ Fits) × (g ≡ 
 unfolding andThen
 then-both Fits g e = (refl, e)
 then-both (Breaks o) g e = absurd (breaks≢fits e)
-
-pub held-true : (at : ℕ) (b : Bool) → held at b ≡ Fits → b ≡ true
-held-true at b e = sym (kept-held at b) ∙ ap kept e
 
 -- a run
 

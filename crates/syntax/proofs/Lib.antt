@@ -2,6 +2,7 @@ pub mod Each
 pub mod Match
 pub mod Window
 pub mod Fields
+pub mod Charged
 pub mod Rules
 pub mod Depth
 pub mod Moved

@@ -16,8 +16,9 @@ use Rattle.der.specs.Fit.{andThen, held}
 use Rattle.syntax.specs.Grammar.{Rule, obeyed, Syntax, end, obeys, optional, one, anyOptional, many, byElement, fit}
 use Rattle.der.proofs.Elements.{valid-within}
 use Rattle.der.proofs.Bools.{on-true, on-false}
+use Rattle.der.proofs.Fits.{breaks≢fits, held-true}
 use Rattle.syntax.proofs.Window.{again}
-use Rattle.syntax.proofs.Each.{Every, every-member, then-both, held-true, breaks≢fits}
+use Rattle.syntax.proofs.Each.{Every, every-member, then-both}
 
 -- an element stands at the place
 pub record Met (s : List ℕ) (at stop : ℕ) (e : Element) : Type 0 where

@@ -25,7 +25,8 @@ use Rattle.der.proofs.Checks.{memberFit}
 use Rattle.der.proofs.Elements.{valid-within, elements-end, elements-broken, elements-turn}
 use Rattle.syntax.specs.Grammar.{obeyed, Syntax, free, end, obeys, optional, one, anyOptional, many, byElement, fit}
 use Rattle.syntax.proofs.Each.{Every, every-weaken, kept-fits, alike-if, alike-element, alike-then, alike-held, each-alike}
-use Rattle.syntax.proofs.Window.{Own, own-within, by-run, Member, members}
+use Rattle.der.proofs.Runs.{by-run}
+use Rattle.syntax.proofs.Window.{Own, own-within, Member, members}
 use Rattle.syntax.proofs.Depth.{spans-holds}
 
 abbrev pub moved : ℕ → Element → Element

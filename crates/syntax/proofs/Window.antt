@@ -1,17 +1,16 @@
 -- Elements and their own windows: an element that was read in some window is read again in the window of its own octets; and the members of a run.
-use Prim.Native.Nat.{ℕ, zero, suc, _-_, _≤_, _<_}
+use Prim.Native.Nat.{ℕ, _≤_, _<_}
 use native.Mathlib.Omega.{arith}
-use mathlib.Core.Bool.{true, false, true≢false, false≢true}
+use mathlib.Core.Bool.{true, true≢false, false≢true}
 use mathlib.Core.List.{List, [], _∷_}
 use mathlib.Core.Path.{_≡_, refl, sym, ap, _∙_}
-use lib.ListN.{length}
-use lib.Dec.{ltb, eqb}
-use borrow.Author.Tests.{ltb-true, ltb-false, eqb-true, eqb-false}
+use lib.Dec.{eqb}
+use borrow.Author.Tests.{eqb-true, eqb-false}
 use Rattle.octets.proofs.Lists.{by-test}
 use Rattle.der.specs.declared.Element.{Element}
 use Rattle.der.specs.Element.{elementAt, elements, withTag}
-use Rattle.der.proofs.Header.{Header, header-or-not, element-is, element-absent}
 use Rattle.der.proofs.Elements.{InWindow, valid-within, bounded, elements-end, elements-broken, elements-turn}
+use Rattle.der.proofs.Runs.{by-run, element-window}
 use Rattle.der.proofs.Elements.{with-tag-end, with-tag-broken, with-tag-found, with-tag-turn}
 use Rattle.syntax.proofs.Each.{Every, every-weaken}
 
@@ -24,45 +23,11 @@ pub own-within : (s : List ℕ) (e : Element) → Own s e → InWindow s (e .at)
 own-within s e o = valid-within s (e .at) (e .stop) (o .is) (o .valid)
 
 module _ (s : List ℕ) (at stop : ℕ) {e : Element} (q : e ≡ elementAt s at stop) (g : e .valid ≡ true) where
-  -- in every window in which it ends it is the same
-  pub narrowed : (to : ℕ) → e .stop ≤ to → to ≤ length s → elementAt s at to ≡ e
-  narrowed to l m =
-      header-or-not s at stop
-      (λ h.
-      let is = q ∙ element-is s at stop h in
-      let ends = ap (λ (x : Element). x .stop) is in
-      let again : Header s at to =
-      record { within = m; room = omega arith; low-tag = h .low-tag; begins = omega arith; shortest = h .shortest; ends = omega arith }
-      in
-      element-is s at to again ∙ sym is)
-      (λ n. absurd (true≢false (sym g ∙ ap (λ (x : Element). x .valid) (q ∙ element-absent s at stop n))))
-
   pub again : elementAt s at (e .stop) ≡ e
-  again = let w = valid-within s at stop q g in narrowed (e .stop) (omega arith) (omega arith)
+  again = let w = valid-within s at stop q g in element-window s at stop (e .stop) q g (omega arith) (omega arith)
 
   pub own : Own s e
   own = record { is = sym again ∙ ap (λ (i : ℕ). elementAt s i (e .stop)) (sym (valid-within s at stop q g .here)); valid = g }
-
--- what holds at the end of a run, where no element stands, and at an element if it holds after it, holds of every run
-module _ (s : List ℕ) (stop : ℕ) (P : ℕ → Type 0) (none : (at : ℕ) → stop ≤ at → P at)
-    (broken : (at : ℕ) → at < stop → elementAt s at stop .valid ≡ false → P at)
-    (turn : (at : ℕ) → elementAt s at stop .valid ≡ true → P (elementAt s at stop .stop) → P at) where
-  by-fuel : (n at : ℕ) → stop - at ≤ n → P at
-  by-fuel zero at l = none at (omega arith)
-  by-fuel (suc n) at l =
-      let e = elementAt s at stop in
-      by-test (ltb at stop)
-      (λ t.
-      by-test (e .valid)
-      (λ g.
-      let w = valid-within s at stop refl g in
-      let m = ltb-true at stop t in
-      turn at g (by-fuel n (e .stop) (omega arith)))
-      (λ g. broken at (ltb-true at stop t) g))
-      (λ t. none at (ltb-false at stop t))
-
-  pub by-run : (at : ℕ) → P at
-  by-run at = by-fuel (stop - at) at (omega arith)
 
 -- a member of a run in a window
 pub record Member (s : List ℕ) (at stop : ℕ) (m : Element) : Type 0 where

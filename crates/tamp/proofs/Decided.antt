@@ -15,7 +15,7 @@ use Rattle.store.proofs.Sizes.{encode-length}
 use Rattle.envelope.specs.declared.Refusal.{Refusal}
 use Rattle.message.specs.declared.Request.{Request}
 use Rattle.protocol.specs.Effect.{effect}
-use Rattle.protocol.specs.Call.{Outcome, answered, guarded, outcomeNumber, replyOf, nextOf, answerOf}
+use Rattle.protocol.specs.Call.{Outcome, answered, guarded, outcomeNumber, outcomeOffset, replyOf, nextOf, answerOf}
 use Rattle.accept.specs.declared.Signer.{Signer}
 use Rattle.accept.specs.declared.Acceptance.{Acceptance}
 use Rattle.accept.specs.declared.Acceptance.the-variants.{Accepted, Refused}
@@ -23,7 +23,7 @@ use Rattle.apply.specs.declared.Done.{Done}
 use Rattle.apply.specs.contract.Effect.{statusesIn, Effected}
 use Rattle.tamp.specs.declared.Answer.{Answer}
 use Rattle.tamp.specs.Left.{resultOf, resultFor, houseRefusal, answer}
-use Rattle.tamp.specs.contract.Given.{Stored, asJudgement, Does}
+use Rattle.tamp.specs.contract.Given.{Stored, asJudgement, offsetOf, Does}
 use Rattle.tamp.specs.contract.Reply.{requestReply, replyWith, Sizes, Put}
 use Rattle.tamp.proofs.Answers.{too-long, written}
 use Rattle.tamp.proofs.Replies.{given-lists, left-lists, request-reply, codes-written, some-codes, some-long, some-are, statuses-few}
@@ -36,10 +36,15 @@ module _ (s image : List ℕ) (σ : Store) (d : decode image ≡ some σ) where
   outcome j = answerOf s image σ (asJudgement j)
 
   -- an outcome by its parts
-  outcome-is : (j : Acceptance) → outcome j ≡ answered (outcomeNumber (outcome j)) (replyOf (outcome j)) (nextOf (outcome j))
-  unfolding answerOf outcomeNumber replyOf nextOf
+  outcome-is : (j : Acceptance) → outcome j ≡ answered (outcomeNumber (outcome j)) (outcomeOffset (outcome j)) (replyOf (outcome j)) (nextOf (outcome j))
+  unfolding answerOf outcomeNumber outcomeOffset replyOf nextOf
   outcome-is (Refused r) = refl
   outcome-is (Accepted q w) = refl
+
+  offset-is : (j : Acceptance) → offsetOf j ≡ outcomeOffset (outcome j)
+  unfolding answerOf outcomeOffset
+  offset-is (Refused r) = refl
+  offset-is (Accepted q w) = refl
 
   -- 205 is decided before the effect is there: by the status that it will have, and any octets for its statuses
   long-reply : (j : Acceptance) {n : ℕ} → Sizes s j image n → n ≡ length (replyOf (outcome j))
@@ -53,7 +58,7 @@ module _ (s image : List ℕ) (σ : Store) (d : decode image ≡ some σ) where
   pub answers-long : (j : Acceptance) (reply next : List ℕ) {n : ℕ} {r : Answer} → Sizes s j image n → replyRoom < n → r ≡ houseRefusal longReply
       → resultOf r reply next ≡ resultFor (guarded (outcome j)) reply next
   answers-long j reply next h l a =
-      too-long (outcomeNumber (outcome j)) (replyOf (outcome j)) (nextOf (outcome j)) reply next (long-reply j h) l a
+      too-long (outcomeNumber (outcome j)) (outcomeOffset (outcome j)) (replyOf (outcome j)) (nextOf (outcome j)) reply next (long-reply j h) l a
       ∙ ap (λ (o : Outcome). resultFor (guarded o) reply next) (sym (outcome-is j))
 
   module _ {next codes : List ℕ} {done : Done} {next′ codes′ : List ℕ} (room : imageRoom ≤ length next) (space : maxUpdates ≤ length codes) where
@@ -76,14 +81,15 @@ module _ (s image : List ℕ) (σ : Store) (d : decode image ≡ some σ) where
         → length (replyWith s j (take (done .len) next′) (done .status) codes′) ≤ replyRoom
     reply-fits j h size l = omega (arith, ap length (reply-is j h), long-reply j size)
 
-    pub answers : (j : Acceptance) → Does s j image next codes done next′ codes′ → (reply : List ℕ) {n m : ℕ} {r : Answer} {reply′ : List ℕ}
-        → Sizes s j image m → m ≤ replyRoom
-        → Put (replyWith s j (take (done .len) next′) (done .status) codes′) reply n reply′ → r ≡ answer (done .status) n (done .len)
+    pub answers : (j : Acceptance) → Does s j image next codes done next′ codes′ → (reply : List ℕ) {k n m : ℕ} {r : Answer} {reply′ : List ℕ}
+        → Sizes s j image m → m ≤ replyRoom → k ≡ offsetOf j
+        → Put (replyWith s j (take (done .len) next′) (done .status) codes′) reply n reply′ → r ≡ answer (done .status) k n (done .len)
         → resultOf r reply′ next′ ≡ resultFor (guarded (outcome j)) reply next
-    answers j h reply size l p a =
-        written (outcomeNumber (outcome j)) (replyOf (outcome j)) (nextOf (outcome j)) reply next
+    answers j h reply size l o p a =
+        written (outcomeNumber (outcome j)) (outcomeOffset (outcome j)) (replyOf (outcome j)) (nextOf (outcome j)) reply next
         (omega (arith, long-reply j size))
         (h .status σ d)
+        (o ∙ offset-is j)
         (p .0 ∙ ap length (reply-is j h), p .1 ∙ ap (placed reply 0) (reply-is j h))
         (h .size σ d)
         (h .octets σ d)

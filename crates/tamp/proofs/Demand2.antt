@@ -18,9 +18,10 @@ use Rattle.tamp.specs.Demand3.{Made, Promised, inputs}
 -- what a call answered, by its promise
 record Answered (image : List ℕ) (m : Made) : Type 0 where
   status : Status
+  offset : ℕ
   reply : List ℕ
   next : List ℕ
-  is : outcome image (inputs m) ≡ answered status reply next
+  is : outcome image (inputs m) ≡ answered status offset reply next
   reads : replyRead m ≡ reply
 
 answered-is : (image : List ℕ) (m : Made) → Promised image m → m .answer .number < 201 → Answered image m
@@ -31,14 +32,14 @@ answered-is image m p l = go (outcome image (inputs m)) refl (numbered-call (m .
     go (refused number) q n e =
         let h : m .answer .number ≡ number .number = ap (λ (l : CallResult). l .number) e in
         absurd (omega arith)
-    go (answered status reply next) q n e =
+    go (answered status offset reply next) q n e =
         let z : length reply ≡ 0 + length reply = omega arith in
         let k : m .answer .«reply_len» ≡ length reply = ap (λ (l : CallResult). l .replyLength) e in
         let b : m .replyAfter ≡ placed (m .reply) 0 reply = ap (λ (l : CallResult). l .reply) e in
-        record { status = status; reply = reply; next = next; is = q; reads = ap₂ take (k ∙ z) b ∙ take-after-placed (m .reply) 0 reply (omega arith) }
+        record { status = status; offset = offset; reply = reply; next = next; is = q; reads = ap₂ take (k ∙ z) b ∙ take-after-placed (m .reply) 0 reply (omega arith) }
 
 pub demand2-of-code : Demand2OfCode
 demand2-of-code image m o p l σ d q i j k n =
     let a = answered-is image m p l in
     rw (a .reads)
-    (demand2 (m .message) image (m .verdict) (length (m .reply)) (length (m .next)) (a .status) (a .reply) (a .next) (m .octets) o (a .is) σ d q i j k n)
+    (demand2 (m .message) image (m .verdict) (length (m .reply)) (length (m .next)) (a .status) (a .offset) (a .reply) (a .next) (m .octets) o (a .is) σ d q i j k n)

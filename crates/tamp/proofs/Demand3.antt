@@ -24,7 +24,7 @@ left-is image m p = go (outcome image (inputs m)) (numbered-call (m .message) im
     go (refused number) n e =
         let h : m .answer .number ≡ number .number = ap (λ (l : CallResult). l .number) e in
         rw (le-leb 201 (m .answer .number) (omega arith), storeAfterCall)
-    go (answered status reply next) n e =
+    go (answered status offset reply next) n e =
         let h : m .answer .number ≡ status .number = ap (λ (l : CallResult). l .number) e in
         let z : length next ≡ 0 + length next = omega arith in
         let k : m .answer .«next_len» ≡ length next = ap (λ (l : CallResult). l .nextLength) e in

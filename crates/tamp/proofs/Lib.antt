@@ -8,3 +8,4 @@ pub mod Decided
 pub mod Demand3
 pub mod Demand2
 pub mod Desk
+pub mod Offset

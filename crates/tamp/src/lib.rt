@@ -14,7 +14,7 @@ ghost use Rattle.store.specs.Image.{decode};
 ghost use Rattle.store.specs.contract.Parts.{anchorCount};
 ghost use Rattle.protocol.specs.Call.{answerOf, guarded, refusalReply};
 ghost use Rattle.tamp.specs.Left.{resultOf, resultFor, Promise, houseRefusal as refusalOf, answer as answerWith};
-ghost use Rattle.tamp.specs.contract.Given.{Rooms, Stored, Known, asJudgement, Does};
+ghost use Rattle.tamp.specs.contract.Given.{Rooms, Stored, Known, asJudgement, offsetOf, Does};
 ghost use Rattle.tamp.specs.contract.Reply.{requestReply, replyWith, Sizes, Put};
 use accept::Acceptance;
 use apply::Done;
@@ -23,12 +23,13 @@ use message::Request;
 use octets::Status;
 use syntax::TampType;
 
-// What the call returns: the number, and how much was written of the reply and of the next store.
+// What the call returns: the number, how much was written of the reply and of the next store, and where the message broke (02, E3).
 #[repr(C)]
 pub struct Answer {
     pub number: u32,
     pub reply_len: u64,
     pub next_len: u64,
+    pub offset: u64,
 }
 
 impl Answer {
@@ -40,17 +41,19 @@ impl Answer {
             number: status.number as u32,
             reply_len: 0,
             next_len: 0,
+            offset: 0,
         }
     }
 
     // An answer with a TAMP status.
-    fn reply(status: Status, reply: usize, next: usize) -> Answer
-        ensures { λ r. ⌜ r ≡ answerWith status reply next ⌝ }
+    fn reply(status: Status, offset: usize, reply: usize, next: usize) -> Answer
+        ensures { λ r. ⌜ r ≡ answerWith status offset reply next ⌝ }
     {
         Answer {
             number: status.number as u32,
             reply_len: reply as u64,
             next_len: next as u64,
+            offset: offset as u64,
         }
     }
 }
@@ -212,6 +215,16 @@ fn effect(s: &[u8], j: Acceptance, image: &[u8], next: &mut [u8], codes: &mut [u
     }
 }
 
+// 02, E3: the offset that the refusing row has; an accepted message has none.
+fn offset_of(j: Acceptance) -> usize
+    ensures { λ r. ⌜ r ≡ offsetOf j ⌝ }
+{
+    match j {
+        Acceptance::Refused(r) => r.offset,
+        Acceptance::Accepted(_, _) => 0,
+    }
+}
+
 // The answer to a message: effect, reply and next store, or 205.
 fn respond(s: &[u8], j: Acceptance, image: &[u8], reply: &mut [u8], next: &mut [u8]) -> Answer
     requires { ⌜ Rooms (now s) (now reply) (now next) × Stored (now image) × Known (now s) j (now image) (now next) ⌝ }
@@ -228,7 +241,7 @@ fn respond(s: &[u8], j: Acceptance, image: &[u8], reply: &mut [u8], next: &mut [
     let status = done.status;
     let len = done.len;
     let n = put_reply(s, j, &next[..len], status, &codes, reply);
-    Answer::reply(status, n, len)
+    Answer::reply(status, offset_of(j), n, len)
 }
 
 // The call: 201 to 204 in their order, then 205 or the answer. The rows after 201 are computed on any octets.

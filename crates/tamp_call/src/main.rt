@@ -27,11 +27,17 @@ fn print_line(word: &[u8], o: &[u8]) {
     io::write_all(STDOUT_FILENO, b"\n");
 }
 
+// A line of a word and a number.
+fn print_number(word: &[u8], n: u64) {
+    io::write_all(STDOUT_FILENO, word);
+    io::print_decimal(STDOUT_FILENO, n);
+    io::write_all(STDOUT_FILENO, b"\n");
+}
+
 fn print_call(message: &[u8], image: &[u8], verdict: &[u8], reply: &mut [u8], next: &mut [u8]) {
     let r = tamp::tamp_call(message, image, verdict, reply, next);
-    io::write_all(STDOUT_FILENO, b"status ");
-    io::print_decimal(STDOUT_FILENO, r.number as u64);
-    io::write_all(STDOUT_FILENO, b"\n");
+    print_number(b"status ", r.number as u64);
+    print_number(b"offset ", r.offset);
     print_line(b"reply ", octets::slice(reply, 0, r.reply_len as usize));
     print_line(b"store ", octets::slice(next, 0, r.next_len as usize));
 }

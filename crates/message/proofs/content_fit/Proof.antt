@@ -12,15 +12,15 @@ returns c =
     let fit = c .before .before in
     content-fits _ (fit .before .before .before .before .args .w) (fit .before .before .e-content .ensures) (fit .body-fit .ensures) (c .enum-told .given .1)
 
-add-t10 : tie.Need-add-t10
-add-t10 c =
-    let slice = c .before .before .before .before .before .before .before in
-    omega (arith, simp (length-take, length-drop) at (ap length (slice .e-content .ensures)), c .before .if1 .taken)
+add-t11 : tie.Need-add-t11
+add-t11 c =
+    let slice = c .before .before .before .before .before .before in
+    omega (arith, simp (length-take, length-drop) at (ap length (slice .e-content .ensures)), c .if1 .taken)
 
 returns-2 : tie.Need-returns-2
 returns-2 c =
-    let fit = c .before .before .before .before .before in
-    content-here _ (fit .before .before .before .before .args .w) (fit .before .before .e-content .ensures) (fit .body-fit .ensures) (c .before .before .before .fit .given .1) (c .before .if1 .taken)
+    let fit = c .before .before .before .before in
+    content-here _ (fit .before .before .before .before .args .w) (fit .before .before .e-content .ensures) (fit .body-fit .ensures) (c .before .before .fit .given .1) (c .if1 .taken)
 
 returns-3 : tie.Need-returns-3
 returns-3 c =
@@ -36,6 +36,6 @@ content-fit-spec =
     (λ c. search needs)
     (λ c. search needs)
     returns
-    add-t10
+    add-t11
     returns-2
     returns-3)

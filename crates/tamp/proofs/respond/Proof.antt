@@ -34,9 +34,9 @@ put-reply-requires c κs =
 
 returns-2 : tie.Need-returns-2
 returns-2 c σ d =
-    let k = c .before .before .before .before .before .before .before .before .before .before .before .before .before .before .before .before .before .before .before .before in
+    let k = c .before .before .before .before .before .before .before .before .before .before .before .before .before .before .before .before .before .before .before .before .before in
     let a = k .args in
-    answers (a .s .now) (a .image .now) σ d (k .pre .0 .next) (omega arith) (a .j) (c .before .before .before .before .before .before .before .before .before .before .before .effect .ensures) (a .reply .now) (c .before .before .before .before .before .before .before .before .before .before .before .before .before .before .before .reply-size .ensures) (c .before .before .before .before .before .before .before .before .before .before .before .before .before .before .if1 .left) (c .before .before .before .put-reply .ensures) (c .reply2 .ensures)
+    answers (a .s .now) (a .image .now) σ d (k .pre .0 .next) (omega arith) (a .j) (c .before .before .before .before .before .before .before .before .before .before .before .before .effect .ensures) (a .reply .now) (c .before .before .before .before .before .before .before .before .before .before .before .before .before .before .before .before .reply-size .ensures) (c .before .before .before .before .before .before .before .before .before .before .before .before .before .before .before .if1 .left) (c .before .offset-of .ensures) (c .before .before .before .before .put-reply .ensures) (c .reply2 .ensures)
 
 pub respond-spec : {M : Type 1} → statement M
 respond-spec =
@@ -51,6 +51,7 @@ respond-spec =
     (λ c. sym (length-take-le _ _ (omega arith)))
     (λ c. search needs)
     put-reply-requires
+    (λ c κs. search needs)
     (λ c κs. search needs)
     (λ c. search needs)
     (λ c. search needs)

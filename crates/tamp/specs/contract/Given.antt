@@ -42,6 +42,11 @@ abbrev pub asJudgement : Acceptance → Judgement
 asJudgement (Refused r) = Refuses r
 asJudgement (Accepted q w) = Accepts q (w .position)
 
+-- the offset of its answer
+abbrev pub offsetOf : Acceptance → ℕ
+offsetOf (Refused r) = r .offset
+offsetOf (Accepted q w) = 0
+
 -- the status octets of an accepted Update's entries
 abbrev pub CodesOf : List ℕ → Acceptance → List ℕ → List ℕ → List ℕ → Type 0
 CodesOf s (Refused r) image codes codes′ = codes′ ≡ codes
