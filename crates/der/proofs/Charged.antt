@@ -3,23 +3,22 @@ use Prim.Native.Nat.{ℕ, zero, suc, _≤_, _<_}
 use native.Mathlib.Omega.{arith}
 use mathlib.Core.Bool.{Bool, true, false, true≢false}
 use mathlib.Core.List.{List, [], _∷_}
-use mathlib.Core.Path.{_≡_, refl, sym, ap, subst, _∙_}
+use mathlib.Core.Path.{_≡_, refl, sym, ap, _∙_}
 use lib.ListN.{length}
 use lib.Dec.{ltb, eqb}
-use borrow.Author.Tests.{ltb-true, ltb-false, eqb-true, eqb-false}
+use borrow.Author.Tests.{ltb-true, ltb-false, eqb-false}
 use Rattle.octets.specs.Lists.{Among, first, later}
-use Rattle.octets.proofs.Lists.{by-test, among-none, among-either, among-one}
+use Rattle.octets.proofs.Lists.{by-test}
 use Rattle.der.specs.declared.Element.{Element}
 use Rattle.der.specs.declared.Fit.{Fit}
 use Rattle.der.specs.declared.Fit.the-variants.{Fits, Breaks}
-use Rattle.der.specs.Element.{absent, elementAt, elements, inside, root, contents, constructed, withTag}
+use Rattle.der.specs.Element.{elementAt, inside, root, contents, constructed}
 use Rattle.der.specs.Fit.{andThen, held, eachFrom, each}
 use Rattle.der.specs.Contents.{contentsOk}
 use Rattle.der.specs.Check.{sortedIn, der, spans}
 use Rattle.der.specs.Identifier.{IdentifierOctet, own, ofMember}
-use Rattle.der.proofs.Bools.{on-true, on-false}
-use Rattle.der.proofs.Elements.{valid-within, bounded, bad-tag, elements-end, elements-broken, elements-turn}
-use Rattle.der.proofs.Runs.{by-run, element-window}
+use Rattle.der.proofs.Elements.{valid-within, bounded, bad-tag}
+use Rattle.der.proofs.Members.{MemberAt, member-is}
 use Rattle.der.proofs.Fits.{breaks≢fits, held-true}
 use Rattle.der.proofs.Checks.{spans-none, spans-one}
 
@@ -97,58 +96,6 @@ spans-charges d s at stop outer f g h b =
     let l = ltb-false at stop t in
     let k = sym (spans-none d s at stop outer l) ∙ b in
     f l (cc))
-
--- the members of a run: the first, and those after it
-module _ (s : List ℕ) (at stop : ℕ) where
-  pub among-first : at < stop → Among (elementAt s at stop) (elements s at stop)
-  among-first l =
-      by-test (elementAt s at stop .valid)
-      (λ g. rw (elements-turn s at stop refl g) first)
-      (λ g. rw (elements-broken s at stop refl l g) first)
-
-  pub among-later : elementAt s at stop .valid ≡ true → {m : Element} → Among m (elements s (elementAt s at stop .stop) stop) → Among m (elements s at stop)
-  among-later g {m} i = subst (Among m) (sym (elements-turn s at stop refl g)) (later i)
-
--- a member is the element at its place, in the run's window
-pub record MemberAt (s : List ℕ) (at stop : ℕ) (e : Element) : Type 0 where
-  pub element : e ≡ elementAt s (e .at) stop
-  pub from : at ≤ e .at
-  pub before : e .at < stop
-
-pub member-is : (s : List ℕ) (at stop : ℕ) {e : Element} → Among e (elements s at stop) → MemberAt s at stop e
-member-is s at stop {e} =
-    let here : (at : ℕ) → at < stop → e ≡ elementAt s at stop → MemberAt s at stop e =
-    λ at l q.
-    let k : e .at ≡ at = ap (λ (y : Element). y .at) q ∙ bounded s at stop refl .here in
-    record { element = q ∙ ap (λ (a : ℕ). elementAt s a stop) (sym k); from = omega arith; before = omega arith }
-    in
-    by-run s stop (λ (at : ℕ). Among e (elements s at stop) → MemberAt s at stop e)
-    (λ at l i. absurd (among-none (subst (Among e) (elements-end s at stop l) i)))
-    (λ at l g i. here at l (among-one (subst (Among e) (elements-broken s at stop refl l g) i)))
-    (λ at g f i.
-    let w = valid-within s at stop refl g in
-    among-either (subst (Among e) (elements-turn s at stop refl g) i)
-    (here at (omega arith))
-    (λ j. let m = f j in record { element = m .element; from = omega (arith, m .from, w); before = m .before }))
-    at
-
--- the run of an element by itself
-pub run-of-one : (s : List ℕ) (at stop : ℕ) {e : Element} → e ≡ elementAt s at stop → e .valid ≡ true → elements s at (e .stop) ≡ e ∷ []
-run-of-one s at stop {e} q g =
-    let w = valid-within s at stop q g in
-    let k = element-window s at stop (e .stop) q g (omega arith) (omega (arith, w)) in
-    elements-turn s at (e .stop) (sym k) g ∙ ap (λ (r : List Element). e ∷ r) (elements-end s (e .stop) (e .stop) (omega arith))
-
--- what a search by tag gives: nothing, or a member with the tag
-pub with-tag-among : {X : Type 0} (t : ℕ) (l : List Element) → (withTag t l ≡ absent 0 → X) → ((e : Element) → withTag t l ≡ e → Among e l → e .tag ≡ t → X) → X
-unfolding withTag
-with-tag-among t [] f g = f refl
-with-tag-among {X} t (e ∷ es) f g =
-    by-test (eqb (e .tag) t)
-    (λ h. g e (on-true (eqb (e .tag) t) e (withTag t es) h) first (eqb-true (e .tag) t h))
-    (λ h.
-    let k = on-false (eqb (e .tag) t) e (withTag t es) h in
-    with-tag-among t es (λ n. f (k ∙ n)) (λ m q i. g m (k ∙ q) (later i)))
 
 -- an identifier octet stands in the octets
 pub octet-within : (s : List ℕ) {o : ℕ} {e : Element} → IdentifierOctet s o e → (at stop : ℕ) → MemberAt s at stop e → stop ≤ length s → o < length s

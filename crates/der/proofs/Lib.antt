@@ -2,6 +2,7 @@ pub mod Bools
 pub mod Header
 pub mod Elements
 pub mod Runs
+pub mod Members
 pub mod Loops
 pub mod Keys
 pub mod Fits

@@ -81,6 +81,10 @@ element-window s at stop w {e} q g h l =
     ∙ sym i)
     (λ n. absurd (true≢false (sym g ∙ ap (λ (x : Element). x .valid) (q ∙ element-absent s at stop n))))
 
+-- .. and so in the window of its own octets
+pub again : (s : List ℕ) (at stop : ℕ) {e : Element} → e ≡ elementAt s at stop → e .valid ≡ true → elementAt s at (e .stop) ≡ e
+again s at stop {e} q g = let w = valid-within s at stop q g in element-window s at stop (e .stop) q g (omega arith) (omega arith)
+
 -- a run goes from one place to the other: each run that goes on from there begins with it
 pub record Reached (s : List ℕ) (from to : ℕ) : Type 0 where
   pub splits : (w : ℕ) → to ≤ w → w ≤ length s → elements s from w ≡ elements s from to ++ elements s to w

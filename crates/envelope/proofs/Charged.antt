@@ -15,7 +15,8 @@ use Rattle.der.specs.Element.{elements, inside, root, contents, constructed, wi
 use Rattle.der.specs.Fit.{held}
 use Rattle.der.specs.Identifier.{IdentifierOctet, own, ofMember}
 use Rattle.der.proofs.Elements.{bounded, elements-end}
-use Rattle.der.proofs.Charged.{then-charges, held-charges, each-charges, with-tag-among}
+use Rattle.der.proofs.Members.{with-tag-among}
+use Rattle.der.proofs.Charged.{then-charges, held-charges, each-charges}
 use Rattle.der.specs.Keys.{typeOf}
 use Rattle.syntax.specs.Grammar.{Syntax, tagged, fit}
 use Rattle.syntax.specs.Asn.{ContentInfoSignedData, OneSignedData, EncapsulatedContentInfo, OneSignerInfo, SignedData, Attribute}
@@ -73,11 +74,15 @@ module _ (s : List ℕ) where
   field-chargeable : (t : ℕ) {e : Element} → constructed t ≡ true → Chargeable s e → Chargeable s (field t s e)
   field-chargeable t {e} c h = tagged-chargeable t (inside s e) c (h .members)
 
+  -- it is charged itself
+  charged-itself : {e : Element} {o : ℕ} → Chargeable s e → e .at ≡ o → IdentifierOctet s o (root s)
+  charged-itself h k = subst (λ a. IdentifierOctet s a (root s)) k (h .place)
+
   -- a syntax that reads its contents
   contents-charge : (g : Syntax) {e : Element} {o : ℕ} → opensConstructed g ≡ true → Chargeable s e → fit g s (e .start) (e .stop) (e .at) ≡ Breaks o
       → IdentifierOctet s o (root s)
   contents-charge g {e} {o} c h =
-      fit-charges s g (e .start) (e .stop) (e .at) c (λ k. subst (λ a. IdentifierOctet s a (root s)) k (h .place)) (λ m i. h .members m i o)
+      fit-charges s g (e .start) (e .stop) (e .at) c (charged-itself h) (λ m i. h .members m i o)
 
   -- an Attribute of signedAttrs
   attribute-charges : (eContentType : List ℕ) (a : Element) → Chargeable s a → (e : Element) → Among e (inside s a) → e .valid ≡ true → {o : ℕ}
@@ -186,11 +191,10 @@ module _ (s : List ℕ) where
             then-charges (attributeFit (contents s (eContentType s)) s e) (held (e .at) _)
             (attribute-charges (contents s (eContentType s)) a at-signedAttrs e i g)
             (λ _. held-charges (e .at) _ (λ _ k. at-signedAttrs .members e i o (own k)))))
-            (λ _. held-charges (a .at) _ (λ _ k. subst (λ x. IdentifierOctet s x (root s)) k (at-signedAttrs .place)))
+            (λ _. held-charges (a .at) _ (λ _. charged-itself at-signedAttrs))
             (rw (attributesFit, v) at h))
-            (λ v. let w = rw (attributesFit, v) at h in let k : signerInfo s .at ≡ o = cc in subst (λ x. IdentifierOctet s x (root s)) k (at-signerInfo .place))
+            (λ v. let w = rw (attributesFit, v) at h in charged-itself at-signerInfo (cc))
 
         pub row-8-charges : {o : ℕ} → row-8 s ≡ Breaks o → IdentifierOctet s o (root s)
         unfolding row-8
-        row-8-charges {o} =
-            held-charges (unsignedAttrs s .at) (not (unsignedAttrs s .valid)) (λ _ k. subst (λ a. IdentifierOctet s a (root s)) k (at-unsignedAttrs .place))
+        row-8-charges = held-charges (unsignedAttrs s .at) (not (unsignedAttrs s .valid)) (λ _. charged-itself at-unsignedAttrs)

@@ -6,6 +6,7 @@ pub mod Steps
 pub mod Answer
 pub mod Refusals
 pub mod Statuses
+pub mod Offset
 pub mod WellFormed
 pub mod Records
 pub mod Demand3

@@ -1,12 +1,11 @@
 -- What holds of every refusal, row by row: its status is below 128, so that it is one octet of an ENUMERATED, and its offset is as 02, E3, says.
-use Prim.Native.Nat.{ℕ, _-_, _<_}
+use Prim.Native.Nat.{ℕ, _-_, _≤_, _<_}
 use native.Mathlib.Omega.{arith}
 use mathlib.Core.Bool.{Bool, true, false, true≢false}
 use mathlib.Core.List.{List}
 use mathlib.Core.Option.{Option, none, some}
 use mathlib.Core.Path.{_≡_, refl, sym, subst, _∙_}
 use lib.ListN.{length}
-use borrow.Author.Tests.{ne-eqb}
 use Rattle.octets.specs.declared.Status.{Status}
 use Rattle.octets.specs.Lists.{anyOf}
 use Rattle.octets.specs.Status.{malformed, seqNumFailure}
@@ -65,13 +64,11 @@ module _ (s : List ℕ) where
   test-told : {n : ℕ} → n < 128 → carriesOffset (record { number = n }) ≡ false → (b : Bool) (o : ℕ) → appliesIf b ≡ Breaks o → Told (record { number = n }) o
   test-told l c b o h = record { small = l; offset = none-told _ c (test-charges b h) }
 
-  element-told : {n o : ℕ} → n < 36 → carriesOffset (record { number = n }) ≡ true → o < length s → IdentifierOctet s o (root s) → Told (record { number = n }) o
-  element-told {n} {o} l c h i =
-      let not-36 : n ≡ 36 → ⊥ = λ e. omega (arith, e) in
-      record { small = omega arith; offset = some-told (record { number = n }) c h (atElement (ne-eqb n 36 not-36) h i) }
+  element-told : {n o : ℕ} → n ≤ 8 → carriesOffset (record { number = n }) ≡ true → o < length s → IdentifierOctet s o (root s) → Told (record { number = n }) o
+  element-told l c h i = record { small = omega arith; offset = some-told _ c h (atElement l h i) }
 
   -- .. after row 1
-  row-told : row-1 s ≡ Fits → {n o : ℕ} → n < 36 → carriesOffset (record { number = n }) ≡ true → IdentifierOctet s o (root s) → Told (record { number = n }) o
+  row-told : row-1 s ≡ Fits → {n o : ℕ} → n ≤ 8 → carriesOffset (record { number = n }) ≡ true → IdentifierOctet s o (root s) → Told (record { number = n }) o
   row-told r1 l c i = element-told l c (row-1-octet s r1 i) i
 
   -- the rows up to 8

@@ -1,5 +1,5 @@
 -- 01, Answers: "All else is an answer with a TAMP status". Every status that a call answers with is below 128, so that it is one octet of an ENUMERATED; a house refusal is 201 or above.
--- And every answer has its offset (02, E3).
+-- And every outcome has the offset that 02, E3, says (`Outcomes`).
 use Prim.Native.Nat.{ℕ, _≤_, _<_}
 use native.Mathlib.Omega.{arith}
 use mathlib.Core.Bool.{Bool, false}
@@ -24,8 +24,8 @@ use Rattle.protocol.specs.declared.Judgement.the-variants.{Refuses, Acce
 use Rattle.protocol.specs.Acceptance.{judgement}
 use Rattle.protocol.specs.Community.{communityStatus}
 use Rattle.protocol.specs.Effect.{queryEffect, adjustEffect, communityEffect, updateEffect, effectOf, effect}
-use Rattle.protocol.specs.Call.{Outcome, refused, answered, answerOf, guarded, callOn, callOf, call, outcomeNumber, outcomeOffset}
-use Rattle.protocol.specs.Offset.{carriesOffset, OffsetRule, Offsets}
+use Rattle.protocol.specs.Call.{Outcome, refused, answered, answerOf, guarded, callOn, callOf, call}
+use Rattle.protocol.specs.Offset.{carriesOffset}
 use Rattle.protocol.proofs.Lists.{by-given}
 use Rattle.protocol.proofs.Refusals.{Told, none-told, InJudgement, in-judgement}
 
@@ -53,7 +53,7 @@ module _ (s : List ℕ) where
   effectOf-told SeqNumAdjust q rights σ = done (omega arith) refl
 
   -- an outcome: its number, and its offset
-  abbrev Outcomes : Outcome → Type 0
+  abbrev pub Outcomes : Outcome → Type 0
   Outcomes (refused number) = (201 ≤ number .number) × (carriesOffset number ≡ false)
   Outcomes (answered status offset reply next) = Told s status offset
 
@@ -62,7 +62,7 @@ module _ (s : List ℕ) where
   answer-told image σ (Refuses r) h = h
   answer-told image σ (Accepts q i) h = effectOf-told (q .kind) q _ _
 
-  call-told : (image verdict : List ℕ) (replyLent nextLent : ℕ) → Outcomes (call s image verdict replyLent nextLent)
+  pub call-told : (image verdict : List ℕ) (replyLent nextLent : ℕ) → Outcomes (call s image verdict replyLent nextLent)
   unfolding call callOf callOn guarded carriesOffset anyOf
   call-told image verdict replyLent nextLent = go (decode image)
     where
@@ -87,12 +87,3 @@ numbered-call s image verdict replyLent nextLent = go (call s image verdict repl
     go : (o : Outcome) → Outcomes s o → Numbered o
     go (refused number) h = h .0
     go (answered status offset reply next) h = omega (arith, h .small)
-
--- the theorem of specs/Offset
-pub offsets : Offsets
-unfolding outcomeNumber outcomeOffset
-offsets s image verdict replyLent nextLent = go (call s image verdict replyLent nextLent) (call-told s image verdict replyLent nextLent)
-  where
-    go : (o : Outcome) → Outcomes s o → OffsetRule s (outcomeNumber o) (outcomeOffset o)
-    go (refused number) h = none-told s number (h .1) refl
-    go (answered status offset reply next) h = h .offset

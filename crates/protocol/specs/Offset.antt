@@ -61,7 +61,7 @@ content s = contents s (eContent s)
 -- message that is not empty.)
 pub data Points (s : List ℕ) (number o : ℕ) : Type 0 where
   -- up to 8: the identifier octet of the message's element, or of one in it
-  atElement : eqb number 36 ≡ false → o < length s → IdentifierOctet s o (root s) → Points s number o
+  atElement : number ≤ 8 → o < length s → IdentifierOctet s o (root s) → Points s number o
   -- .. the first octet behind it
   behindMessage : number ≡ 1 → root s .valid ≡ true → o < length s → o ≡ root s .stop → Points s number o
   -- .. nothing: the message is empty

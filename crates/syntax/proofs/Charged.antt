@@ -8,7 +8,7 @@ use lib.ListN.{length}
 use lib.Dec.{ltb, leb, eqb}
 use borrow.Author.Tests.{ltb-true, leb-false, eqb-true}
 use Rattle.octets.specs.Octets.{slice}
-use Rattle.octets.specs.Lists.{Among, first}
+use Rattle.octets.specs.Lists.{Among}
 use Rattle.octets.proofs.Lists.{by-test, among-one}
 use Rattle.der.specs.declared.Element.{Element}
 use Rattle.der.specs.declared.Fit.{Fit}
@@ -17,7 +17,8 @@ use Rattle.der.specs.Element.{elementAt, elements, root, constructed}
 use Rattle.der.specs.Fit.{held}
 use Rattle.der.specs.Check.{spans}
 use Rattle.der.specs.Identifier.{IdentifierOctet, own, ofMember}
-use Rattle.der.proofs.Charged.{then-charges, held-charges, each-charges, spans-charges, among-first, among-later, member-is, run-of-one, root-octet}
+use Rattle.der.proofs.Members.{among-first, among-later, member-is, run-of-one}
+use Rattle.der.proofs.Charged.{then-charges, held-charges, each-charges, spans-charges, root-octet}
 use Rattle.der.proofs.Bools.{on-true, on-false}
 use Rattle.der.proofs.Fits.{breaks≢fits}
 use Rattle.der.proofs.Elements.{valid-within, bounded}

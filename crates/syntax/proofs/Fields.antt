@@ -17,7 +17,8 @@ use Rattle.der.proofs.Elements.{valid-within, with-tag-end, with-tag-found, wit
 use Rattle.syntax.specs.Grammar.{Syntax, free, end, obeys, optional, one, anyOptional, many, fit}
 use Rattle.syntax.proofs.Match.{First, met, optional-here, one-turn, optional-fits, one-fits, end-fits, obeys-fits, many-fits}
 use Rattle.syntax.proofs.Each.{Every, every-weaken, every-both}
-use Rattle.syntax.proofs.Window.{Own, own, own-within, again, Member, members}
+use Rattle.der.proofs.Runs.{again}
+use Rattle.syntax.proofs.Window.{Own, own, own-within, Member, members}
 
 -- no element of the run has the tag t, whatever stands there
 unfoldable pub lacks : ℕ → Syntax → Bool

@@ -17,7 +17,7 @@ use Rattle.syntax.specs.Grammar.{Rule, obeyed, Syntax, end, obeys, optio
 use Rattle.der.proofs.Elements.{valid-within}
 use Rattle.der.proofs.Bools.{on-true, on-false}
 use Rattle.der.proofs.Fits.{breaks≢fits, held-true}
-use Rattle.syntax.proofs.Window.{again}
+use Rattle.der.proofs.Runs.{again}
 use Rattle.syntax.proofs.Each.{Every, every-member, then-both}
 
 -- an element stands at the place

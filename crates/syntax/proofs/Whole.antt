@@ -24,7 +24,7 @@ use Rattle.syntax.specs.Grammar.{obeyed, Syntax, many, fit}
 use Rattle.syntax.specs.contract.Rows.{ruleOf, grammarOf, syntaxAt, RowIs, RowOf, thenAfter, leftOut, byContents}
 use Rattle.syntax.specs.contract.Whole.{derRun, conformsIn, afterIf, thenConforms, entered}
 use Rattle.syntax.proofs.Each.{kept-then, kept-held, kept-turn}
-use Rattle.syntax.proofs.Window.{again}
+use Rattle.der.proofs.Runs.{again}
 use Rattle.syntax.proofs.Match.{Met}
 use Rattle.syntax.proofs.RowSteps.{row-free, row-end, row-end-breaks, row-many, row-rule, many-end, many-broken, many-turn}
 use Rattle.syntax.proofs.RowSteps.{field-none, field-broken, field-any, field-one, field-other, field-here}

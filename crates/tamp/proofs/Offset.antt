@@ -2,7 +2,7 @@
 use mathlib.Core.Path.{_≡_, ap}
 use lib.ListN.{length}
 use Rattle.protocol.specs.Call.{call, outcomeNumber, outcomeOffset}
-use Rattle.protocol.proofs.Statuses.{offsets}
+use Rattle.protocol.proofs.Offset.{offsets}
 use Rattle.tamp.specs.Left.{CallResult, resultFor}
 use Rattle.tamp.specs.Offset.{OffsetsOfCode}
 
