@@ -1,18 +1,16 @@
 -- A header's rules as facts, and what `elementAt` is where they hold and where one breaks. Only this file and Elements open `elementAt`.
-use Prim.Native.Nat.{ℕ, suc, _+_, _-_, _*_, _/_, _%_, _≤_, _<_}
-use native.Mathlib.Numerals.{add-one}
+use Prim.Native.Nat.{ℕ, _+_, _-_, _*_, _/_, _%_, _≤_, _<_}
 use native.Mathlib.Omega.{arith}
 use mathlib.Core.Bool.{Bool, true, false, not, and-eq-true-iff, true≢false, false≢true}
-use mathlib.Core.List.{List}
+use mathlib.Core.List.{List, []}
 use mathlib.Core.Path.{_≡_, refl, sym, ap, _∙_}
 use lib.ListN.{length}
-use lib.Seq.{drop-cons}
 use lib.Dec.{ltb, leb, eqb}
-use borrow.Author.Tests.{ltb-true, ltb-false, leb-true, leb-false, eqb-false, not-true, lt-ltb, le-ltb, le-leb, lt-leb, eq-eqb, ne-eqb}
+use borrow.Author.Tests.{ltb-true, ltb-false, leb-true, leb-false, eqb-true, eqb-false, not-true, lt-ltb, le-ltb, le-leb, lt-leb, eq-eqb, ne-eqb}
 use Rattle.octets.specs.Octets.{octet, slice}
 use Rattle.octets.specs.Number.{numberFrom}
 use Rattle.octets.proofs.Lists.{by-test, both}
-use Rattle.octets.proofs.Parts.{slice-none}
+use Rattle.octets.proofs.Parts.{slice-first, slice-none}
 use Rattle.octets.proofs.Number.{number-grows}
 use Rattle.der.specs.declared.read.Length.the-variants.{Of, Beyond}
 use Rattle.der.specs.Element.{absent, lengthOctetsAfter, lengthAt, lengthShortest, contentsAt, headed, elementAt}
@@ -71,91 +69,84 @@ module _ (s : List ℕ) (at stop : ℕ) where
 
 -- the length octets
 
-module _ (s : List ℕ) (at n : ℕ) where
-  -- the short form is the long form of no further octets
-  pub length-from : (octet s (at + 1) < 128 → n ≡ octet s (at + 1)) → (128 ≤ octet s (at + 1) → n ≡ 0)
-      → numberFrom n (slice s (at + 2) (contentsAt s at)) ≡ lengthAt s at
+module _ (s : List ℕ) (at : ℕ) where
+  pub length-short : octet s (at + 1) < 128 → numberFrom (0 * 256 + octet s (at + 1)) [] ≡ lengthAt s at
   unfolding lengthAt numberFrom
-  length-from short long =
-      by-test (ltb (octet s (at + 1)) 128)
-      (λ e.
-      let l = ltb-true (octet s (at + 1)) 128 e in
-      rw (slice-none s (at + 2) (contentsAt s at) (omega arith), e, lengthAt) (short l))
-      (λ e. rw (e, lengthAt, long (ltb-false (octet s (at + 1)) 128 e)))
+  length-short l = rw (lt-ltb _ _ l, lengthAt)
+
+  pub length-long : 128 ≤ octet s (at + 1) → numberFrom 0 (slice s (at + 2) (contentsAt s at)) ≡ lengthAt s at
+  unfolding lengthAt
+  length-long l = rw (le-ltb _ _ l, lengthAt)
 
 -- the octets from i on up to e, the next one in front
 pub slice-turn : (s : List ℕ) (i e n : ℕ) → i < e → e ≤ length s → numberFrom n (slice s i e) ≡ numberFrom (n * 256 + octet s i) (slice s (i + 1) e)
 unfolding numberFrom
-slice-turn s i e n l h =
-    let q : e - i ≡ suc (e - (i + 1)) = omega arith in
-    let m : i < length s = omega arith in
-    rw (q, drop-cons s i 0 m, add-one)
+slice-turn s i e n l h = ap (numberFrom n) (slice-first s i (i + 1) e refl l h)
 
 -- the length octets read up to i: none yet, or the first and some after it
-pub record ReadTo (s : List ℕ) (at stop start n i : ℕ) (first : Bool) : Type 0 where
-  pub from : at + 1 ≤ i
+pub record ReadTo (s : List ℕ) (at stop start n i : ℕ) (later : Bool) : Type 0 where
   pub upto : i ≤ start
-  pub begins : at + 2 ≤ start
   pub ends : start ≤ stop
-  pub none : first ≡ true → (i ≡ at + 1) × ((start ≡ at + 2) × (n ≡ 0))
-  pub some : first ≡ false → (at + 1 < i) × ((start ≡ contentsAt s at) × (numberFrom n (slice s i start) ≡ lengthAt s at))
+  pub none : later ≡ false → (i ≡ at + 1) × ((start ≡ at + 2) × (n ≡ 0))
+  pub some : later ≡ true → (start ≡ contentsAt s at) × (numberFrom n (slice s i start) ≡ lengthAt s at)
 
 module _ (s : List ℕ) (at stop : ℕ) where
-  pub read-none : at + 2 ≤ stop → ReadTo s at stop (at + 2) 0 (at + 1) true
-  read-none l =
-      record {
-        from = omega arith;
-        upto = omega arith;
-        begins = omega arith;
-        ends = l;
-        none = λ e. (refl, (refl, refl));
-        some = λ m. absurd (true≢false m);
-      }
+  pub read-none : at + 2 ≤ stop → ReadTo s at stop (at + 2) 0 (at + 1) false
+  read-none l = record { upto = omega arith; ends = l; none = λ e. (refl, (refl, refl)); some = λ e. absurd (false≢true e) }
 
-  -- the first octet is the length, or says where the contents begin
-  pub read-first : {start n i : ℕ} → i ≡ at + 1 → (octet s i < 128 → n ≡ octet s i) → (128 ≤ octet s i → n ≡ 0)
-      → start ≡ at + 2 + lengthOctetsAfter (octet s i) → start ≤ stop → ReadTo s at stop start n (i + 1) false
-  read-first {start} {n} {i} f short long e l =
+  -- the first octet is 128 or more, and says where the contents begin
+  pub read-count : {start n i : ℕ} → i ≡ at + 1 → n ≡ 0 → 128 ≤ octet s i → start ≡ at + 2 + lengthOctetsAfter (octet s i) → start ≤ stop
+      → ReadTo s at stop start n (i + 1) true
+  read-count {start} {n} {i} f z long e l =
       let p : i + 1 ≡ at + 2 = omega arith in
       let b : start ≡ contentsAt s at = rw f at e in
       record {
-        from = omega arith;
         upto = omega arith;
-        begins = omega arith;
         ends = l;
-        none = λ m. absurd (false≢true m);
-        some = λ m. (omega arith, (b, rw (b, p) (length-from s at n (rw f at short) (rw f at long))));
+        none = λ m. absurd (true≢false m);
+        some = λ m. (b, rw (b, p, z) (length-long s at (rw f at long)));
       }
 
-  module _ (inside : stop ≤ length s) {start n i : ℕ} {first : Bool} (r : ReadTo s at stop start n i first) where
-    pub read-digit : first ≡ false → i < start → ReadTo s at stop start (n * 256 + octet s i) (i + 1) false
-    read-digit f l =
-        record {
-          from = omega arith;
-          upto = omega arith;
-          begins = r .begins;
-          ends = r .ends;
-          none = λ e. absurd (false≢true e);
-          some = λ k. (omega (arith, r .from), (r .some f .1 .0, sym (slice-turn s i start n l (omega arith)) ∙ r .some f .1 .1));
-        }
+  module _ (inside : stop ≤ length s) {start n i : ℕ} {later : Bool} (r : ReadTo s at stop start n i later) where
+    -- every other octet is a digit
+    pub read-digit : (later ≡ false → octet s i < 128) → i < start → ReadTo s at stop start (n * 256 + octet s i) (i + 1) true
+    read-digit short l = record { upto = omega arith; ends = r .ends; none = λ m. absurd (true≢false m); some = λ m. by-test later more only }
+      where
+        Read : Type 0
+        Read = (start ≡ contentsAt s at) × (numberFrom (n * 256 + octet s i) (slice s (i + 1) start) ≡ lengthAt s at)
 
-    -- a digit more, and the length would pass the window's end
-    pub read-beyond : first ≡ false → i < start → (stop - start) / 256 < n → stop < contentsAt s at + lengthAt s at
-    read-beyond f l w =
+        only : later ≡ false → Read
+        only f =
+            let z = r .none f in
+            let x : octet s (at + 1) < 128 = rw (z .0) at (short f) in (
+              omega (arith, z .1 .0),
+              rw (z .0, z .1 .1, slice-none s (at + 1 + 1) start (omega (arith, z .1 .0))) (length-short s at x),
+            )
+
+        more : later ≡ true → Read
+        more f = let z = r .some f in (z .0, sym (slice-turn s i start n l (omega (arith, r .ends))) ∙ z .1)
+
+    -- with a digit more the length would pass the window's end
+    pub read-beyond : i < start → (stop - start) / 256 < n → stop < contentsAt s at + lengthAt s at
+    read-beyond l w =
+        by-test later
+        (λ f.
+        let z = r .some f in
         omega (
           arith,
-          r .some f .1 .0,
-          r .some f .1 .1,
-          slice-turn s i start n l (omega arith),
+          z .0,
+          z .1,
+          slice-turn s i start n l (omega (arith, r .ends)),
           number-grows (n * 256 + octet s i) (slice s (i + 1) start),
-        )
+        ))
+        (λ f. absurd (omega (arith, r .none f .1 .1)))
 
     pub read-all : start ≤ i → (start ≡ contentsAt s at) × (n ≡ lengthAt s at)
     unfolding numberFrom
     read-all l =
-        by-test first
-        (λ f. absurd (omega (arith, r .none f .0, r .begins)))
-        (λ f. (r .some f .1 .0, sym (ap (numberFrom n) (slice-none s i start l)) ∙ r .some f .1 .1))
+        by-test later
+        (λ f. let z = r .some f in (z .0, sym (ap (numberFrom n) (slice-none s i start l)) ∙ z .1))
+        (λ f. absurd (omega (arith, r .none f .0, r .none f .1 .0)))
 
 -- what the length octets say in a window
 
@@ -196,7 +187,7 @@ module _ (s : List ℕ) (at : ℕ) where
   indefinite-form e =
       let l : 128 ≤ octet s (at + 1) = omega arith in
       let n : lengthAt s at ≡ 0 =
-      sym (length-from s at 0 (λ l. absurd (omega arith)) (λ l. refl))
+      sym (length-long s at l)
       ∙ ap (numberFrom 0) (slice-none s (at + 2) (contentsAt s at) (omega arith))
       in
       rw (le-ltb _ _ l, n, lengthShortest) (and-false (not (eqb (octet s (at + 2)) 0)))

@@ -10,4 +10,5 @@ pub mod Leaves
 pub mod Checks
 pub mod Charged
 pub mod Writes
+pub mod LengthOctets
 pub mod Examples

@@ -13,26 +13,23 @@ use Rattle.der.specs.declared.Element.{Element}
 abbrev pub absent : ℕ → Element
 absent at = record { valid = false; tag = 0; at = at; start = at; stop = at }
 
--- X.690, 8.1.3: the first length octet is the length, or 128 and the number of length octets after it. The difference is cut off at 0: a first octet below 128
--- has none after it
+-- X.690, 8.1.3: every length octet is a digit of the length, to the base 256, but a first one of 128 or more: that one says how many length octets stand after
+-- it. (The difference is cut off at 0: after a first octet below 128 stands none.)
 abbrev pub lengthOctetsAfter : ℕ → ℕ
 lengthOctetsAfter first = first - 128
-
-unfoldable pub lengthAt : List ℕ → ℕ → ℕ
-lengthAt s at =
-    let first = octet s (at + 1) in
-    elim (ltb first 128) [
-      | true ↦ first
-      | false ↦ number (slice s (at + 2) (at + 2 + lengthOctetsAfter first))
-    ]
-
--- 01, DER: lengths are definite and shortest (81 7F is wrong, 81 80 right; 80 is the indefinite form, and would be the length 0 in no octets)
-unfoldable pub lengthShortest : List ℕ → ℕ → Bool
-lengthShortest s at = ltb (octet s (at + 1)) 128 || (not (eqb (octet s (at + 2)) 0) && leb 128 (lengthAt s at))
 
 -- where the contents begin
 abbrev pub contentsAt : List ℕ → ℕ → ℕ
 contentsAt s at = at + 2 + lengthOctetsAfter (octet s (at + 1))
+
+unfoldable pub lengthAt : List ℕ → ℕ → ℕ
+lengthAt s at =
+    let first = octet s (at + 1) in
+    number (elim (ltb first 128) [ true ↦ first ∷ [] | false ↦ slice s (at + 2) (contentsAt s at) ])
+
+-- 01, DER: lengths are definite and shortest (81 7F is wrong, 81 80 right; 80 is the indefinite form, and would be the length 0 in no octets)
+unfoldable pub lengthShortest : List ℕ → ℕ → Bool
+lengthShortest s at = ltb (octet s (at + 1)) 128 || (not (eqb (octet s (at + 2)) 0) && leb 128 (lengthAt s at))
 
 -- a header stands at `at`, and its element ends in the window: the window is inside the octets, the tag is one octet (01, DER: "Tags are one octet"),
 -- the length is shortest, and nothing passes the window's end

@@ -5,5 +5,6 @@ pub mod Check
 pub mod Keys
 pub mod Identifier
 pub mod Write
+pub mod LengthOctets
 pub mod Oid
 pub mod contract

@@ -25,8 +25,8 @@ pub fn no_element(at: usize) -> Element
     }
 }
 
-// The length octets of the element at a place, all of them in one loop: the first is the length or says how many stand after it, each of those is a digit
-// of the length. The loop stops before a length that passes the window's end could wrap. (With a flag for the first turn the compiler can tell it from the others.)
+// X.690, 8.1.3: every length octet is a digit of the length, to the base 256, but a first one of 128 or more:
+// that one says how many length octets stand after it.
 fn length_at(s: &[u8], at: usize, stop: usize) -> Length
     requires { ⌜ (at + 2 ≤ stop) × (stop ≤ length (now s)) ⌝ }
     ensures { λ r. ⌜ r ≡ lengthIn (now (s .entry)) at stop ⌝ }
@@ -34,26 +34,23 @@ fn length_at(s: &[u8], at: usize, stop: usize) -> Length
     let mut start = at + 2;
     let mut n = 0;
     let mut i = at + 1;
-    let mut first = true;
+    let mut later = false;
     while i < start {
         let x = octets::wide(s[i]);
-        if first {
-            if x < 128 {
-                n = x;
-            } else {
-                if stop - start < x - 128 {
-                    return Length::Beyond;
-                }
-                start += x - 128;
-            }
-        } else {
+        if later || x < 128 {
+            // with one more digit it would pass the window's end; so it never wraps
             if (stop - start) / 256 < n {
                 return Length::Beyond;
             }
             n = n * 256 + x;
+        } else {
+            if stop - start < x - 128 {
+                return Length::Beyond;
+            }
+            start += x - 128;
         }
         i += 1;
-        first = false;
+        later = true;
     }
     if stop - start < n {
         return Length::Beyond;

@@ -6,7 +6,7 @@ use native.Mathlib.Numerals.{add-one}
 use native.Mathlib.Omega.{arith}
 use mathlib.Core.List.{List, [], _∷_, _++_}
 use mathlib.Core.Path.{_≡_, refl, sym, ap, ap₂, _∙_}
-use lib.ListN.{length, getD, take, drop, length-append, length-take, List·getD-eq-default}
+use lib.ListN.{length, getD, take, drop, length-append, length-take, List·getD-eq-default, List·getD-append}
 use lib.Seq.{length-take-le, take-suc, take-all, getD-take, getD-drop, getD-at, take-at, take-take}
 use lib.Dec.{eqb, ltb, lit<}
 use lib.Arith.{digits-lt, digits-div, digits-mod}
@@ -137,6 +137,11 @@ module _ (b k n : ℕ) where
   unfolding digits
   digits-turn e = rw (ne-eqb n 0 e, digits)
 
+pub digits-zero : (k : ℕ) → digits 256 k 0 ≡ []
+unfolding digits
+digits-zero zero = refl
+digits-zero (suc k) = digits-none 256 k 0 refl
+
 pub length-digits : (k n : ℕ) → length (digits 256 k n) ≤ k
 unfolding digits
 length-digits zero n = le-refl 0
@@ -168,6 +173,67 @@ number-digits (suc k) n h =
     rw (digits-turn 256 k n (eqb-false n 0 e))
     (number-append 0 (digits 256 k (n / 256)) (n % 256 ∷ []) ∙ ap (λ (m : ℕ). m * 256 + n % 256) ih ∙ div-add-mod' n 256))
 
+-- octets with no zero in front
+abbrev pub NoZeroInFront : List ℕ → Type 0
+NoZeroInFront s = 0 < length s → getD s 0 0 ≡ 0 → ⊥
+
+-- they are the digits of the number that they write
+pub digits-number : (k : ℕ) (s : List ℕ) → Octets s → NoZeroInFront s → number s < 256 ^ k → digits 256 k (number s) ≡ s
+unfolding numberFrom
+digits-number zero [] o f h = digits-zero 0
+digits-number zero (x ∷ s) o f h =
+    absurd (f (omega arith) (omega (arith, rw (pow-zero 256) at h, number-grows (0 * 256 + x) s)))
+digits-number (suc k) s o f h = go (digits-number k) s o f h
+  where
+    go : ((s : List ℕ) → Octets s → NoZeroInFront s → number s < 256 ^ k → digits 256 k (number s) ≡ s)
+        → (s : List ℕ) → Octets s → NoZeroInFront s → number s < 256 ^ suc k → digits 256 (suc k) (number s) ≡ s
+    go ih [] o f h = digits-zero (suc k)
+    go ih (x ∷ s) o f h =
+        let m = length s in
+        let t = x ∷ s in
+        let q = number (take m t) in
+        let r = getD t m 0 in
+        let n : number t ≡ q * 256 + r =
+        ap number (sym (take-all (m + 1) t (omega arith))) ∙ number-turn t m (omega arith)
+        in
+        let z : number t ≡ 0 → ⊥ = λ e. f (omega arith) (omega (arith, e, number-grows (0 * 256 + x) s)) in
+        let d : number t / 256 ≡ q = ap (λ (v : ℕ). v / 256) n ∙ digits-div q (o m) in
+        let l : number t % 256 ≡ r = ap (λ (v : ℕ). v % 256) n ∙ digits-mod q (o m) in
+        let front : NoZeroInFront (take m t) =
+        λ p e. f (omega arith) (sym (getD-take m t 0 0 (omega (arith, length-take m t, p))) ∙ e)
+        in
+        let b : q < 256 ^ k = rw d at (div-lt-iff-lt-mul (lit< tt) .1 (rw (pow-suc 256 k) at h)) in
+        digits-turn 256 k (number t) z
+        ∙ ap₂ (λ (v w : ℕ). digits 256 k v ++ (w ∷ [])) d l
+        ∙ ap (λ (u : List ℕ). u ++ (r ∷ [])) (ih (take m t) (octets-take t m o) front b)
+        ∙ sym (take-suc t m 0 (omega arith))
+        ∙ take-all (suc m) t (omega arith)
+
+-- no digit in front is zero
+pub digits-front : (k n : ℕ) → n < 256 ^ k → NoZeroInFront (digits 256 k n)
+unfolding digits numberFrom
+digits-front zero n h p e = omega arith
+digits-front (suc k) n h p e =
+    let q = n / 256 in
+    let d = digits 256 k q in
+    let b : q < 256 ^ k = div-lt-iff-lt-mul (lit< tt) .1 (rw (pow-suc 256 k) at h) in
+    let ih = digits-front k q b in
+    by-test (eqb n 0)
+    (λ t. omega (arith, ap length (digits-none 256 k n (eqb-true n 0 t))))
+    (λ t.
+    let z = eqb-false n 0 t in
+    let u : digits 256 (suc k) n ≡ d ++ (n % 256 ∷ []) = digits-turn 256 k n z in
+    let first : getD (d ++ (n % 256 ∷ [])) 0 0 ≡ 0 = rw u at e in
+    by-test (eqb (length d) 0)
+    (λ l.
+    let none : d ≡ [] = sym (take-all 0 d (omega (arith, eqb-true (length d) 0 l))) in
+    let v : q ≡ 0 = sym (number-digits k q b) ∙ ap number none in
+    let w : n % 256 ≡ 0 = rw none at first in
+    z (omega (arith, div-add-mod' n 256)))
+    (λ l.
+    let some : 0 < length d = omega (arith, eqb-false (length d) 0 l) in
+    ih some (sym (List·getD-append d (n % 256 ∷ []) 0 0 some) ∙ first)))
+
 -- one digit less
 pub record Fewer (w n : ℕ) : Type 0 where
   pub some : 0 < w
@@ -185,8 +251,3 @@ fewer (suc w) n p h =
           rw e (ap length (digits-turn 256 w n q) ∙ length-append (digits 256 w (n / 256)) (n % 256 ∷ []));
       below = rw e (div-lt-iff-lt-mul (lit< tt) .1 (rw (pow-suc 256 w) at h));
     }
-
-pub digits-zero : (k : ℕ) → digits 256 k 0 ≡ []
-unfolding digits
-digits-zero zero = refl
-digits-zero (suc k) = digits-none 256 k 0 refl

@@ -9,6 +9,7 @@ use lib.ListN.{length}
 use borrow.Author.Tests.{lt-ltb, ne-eqb}
 use Rattle.octets.specs.Limits.{maxEntries, maxValues}
 use Rattle.octets.specs.Lists.{allOf, anyOf}
+use Rattle.octets.specs.Number.{numberFrom}
 use Rattle.octets.specs.Octets.{same, member}
 use Rattle.octets.proofs.Lists.{by-test, both, member-cases, member-append}
 use Rattle.der.specs.Contents.{integerOk, arcsOk, oidOk, contentsOk}
@@ -72,7 +73,7 @@ unfolding isType oidOk arcsOk oid allOf
 small-type n h = rw (lt-ltb n 256 (omega arith), ne-eqb n 128 (λ e. omega arith), lt-ltb n 128 (omega arith))
 
 small-value : (n : ℕ) → n ≤ 4 → isValue (integer n) ≡ true
-unfolding isValue integer allOf spans der elementAt headed lengthAt lengthShortest contentsOk integerOk andThen held
+unfolding isValue integer allOf spans der elementAt headed lengthAt numberFrom lengthShortest contentsOk integerOk andThen held
 small-value n h = rw (lt-ltb n 256 (omega arith))
 
 -- the decision, level by level

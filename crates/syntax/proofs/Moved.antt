@@ -3,7 +3,7 @@
 use Prim.Native.Nat.{ℕ, zero, suc, _+_, _-_, _≤_, _<_}
 use native.Mathlib.Omega.{arith}
 use mathlib.Core.Bool.{Bool, true, false, not, _&&_, _||_}
-use mathlib.Core.List.{List, _∷_, map}
+use mathlib.Core.List.{List, [], _∷_, map}
 use mathlib.Core.Path.{_≡_, refl, sym, ap, ap₂, _∙_}
 use lib.ListN.{length}
 use lib.Seq.{ext-getD}
@@ -33,8 +33,8 @@ abbrev pub moved : ℕ → Element → Element
 moved a e = record { valid = e .valid; tag = e .tag; at = a + e .at; start = a + e .start; stop = a + e .stop }
 
 -- an element's length octets, by what they hold
-abbrev lengthOf : ℕ → ℕ → ℕ
-lengthOf first n = elim (ltb first 128) [ true ↦ first | false ↦ n ]
+abbrev lengthOf : ℕ → List ℕ → ℕ
+lengthOf first after = number (elim (ltb first 128) [ true ↦ first ∷ [] | false ↦ after ])
 
 abbrev shortestOf : ℕ → ℕ → ℕ → Bool
 shortestOf first second n = ltb first 128 || (not (eqb second 0) && leb 128 n)
@@ -90,8 +90,7 @@ module _ (s : List ℕ) (a b : ℕ) (ab : a ≤ b) (bs : b ≤ length s) where
       length-at-here =
           let f = first-here in
           ap₂ lengthOf f
-          (ap number
-          (slice-here (i + 2) (contentsAt (slice s a b) i) (a + i + 2) (contentsAt s (a + i)) (omega arith) (omega arith) begins))
+          (slice-here (i + 2) (contentsAt (slice s a b) i) (a + i + 2) (contentsAt s (a + i)) (omega arith) (omega arith) begins)
 
       shortest-here : lengthShortest (slice s a b) i ≡ lengthShortest s (a + i)
       unfolding lengthShortest

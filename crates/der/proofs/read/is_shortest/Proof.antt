@@ -6,6 +6,9 @@ use Rattle.der.proofs.Header.{short-form, indefinite-form, padded-form,
 use Rattle.der.proofs.read.is_shortest.Statement.{statement}
 use Rattle.der.proofs.read.is_shortest.Tie as tie
 
+returns : tie.Need-returns
+returns c = sym (short-form _ _ (c .if1 .taken))
+
 returns-4 : tie.Need-returns-4
 returns-4 c = ap (leb 128) (c .before .before .before .before .before .pre .1) ∙ sym (long-form _ _ (c .before .before .before .if1 .left) (c .if3 .left))
 
@@ -15,7 +18,7 @@ is-shortest-spec =
     (tie.spec
     (λ c. search needs)
     (λ c. search needs)
-    (λ c. sym (short-form _ _ (c .if1 .taken)))
+    returns
     (λ c. sym (indefinite-form _ _ (c .if2 .taken)))
     (λ c. search needs)
     (λ c. search needs)

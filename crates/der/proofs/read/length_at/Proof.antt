@@ -1,62 +1,66 @@
 -- `der::length_at` meets its contract. The loop's invariant: the octets up to i are read. Assumes nothing.
-use Prim.Native.Nat.{_-_}
+use Prim.Native.Nat.{_-_, _≤_, _<_}
 use native.Mathlib.Omega.{arith}
 use borrow.Author.Needs.{needs}
+use borrow.Author.Tests.{ltb-true, ltb-false}
+use mathlib.Core.Bool.{true, false, true≢false}
 use mathlib.Core.Logic.{⊎-elim}
-use mathlib.Core.Path.{sym, ap, _∙_}
+use mathlib.Core.Path.{_≡_, sym, ap, _∙_}
 use Rattle.octets.specs.Octets.{octet}
-use Rattle.der.proofs.Header.{ReadTo, read-none, read-first, read-digit, read-beyond, read-all, length-beyond, length-of}
+use Rattle.octets.proofs.wide.Reads as wide-reads
+use Rattle.der.proofs.Header.{ReadTo, read-none, read-count, read-digit, read-beyond, read-all, length-beyond, length-of}
 use Rattle.der.proofs.read.length_at.Statement.{statement}
+use Rattle.der.proofs.read.length_at.Reads as reads
+use Rattle.der.proofs.read.length_at.Lts as lts
 use Rattle.der.proofs.read.length_at.Tie as tie
 
 abbrev Inv-loop : tie.InvT-loop
-Inv-loop s at stop start₀ n₀ i₀ first₀ start n i first = ReadTo s at stop start n i first
+Inv-loop s at stop start₀ n₀ i₀ later₀ start n i later = ReadTo s at stop start n i later
 
 abbrev μ-loop : tie.MeasureT-loop
-μ-loop s at stop start₀ n₀ i₀ first₀ start n i first = stop - i
+μ-loop s at stop start₀ n₀ i₀ later₀ start n i later = stop - i
+
+-- what `later || x < 128` says
+module _ (c : lts.Joined1 (wide-reads.Asked, wide-reads.Learnt) reads.Pre reads.Post Inv-loop μ-loop) where
+  digit : c .if1 .if2 ≡ true → c .before .before .before .before .loop .later ≡ false → c .before .wide .result < 128
+  digit e f = ⊎-elim (λ u. absurd (true≢false (sym (u .0 .taken) ∙ f))) (λ u. ltb-true (c .before .wide .result) 128 (sym (u .1) ∙ e)) (c .if1 .came)
+
+  count : c .if1 .if2 ≡ false → (c .before .before .before .before .loop .later ≡ false) × (128 ≤ c .before .wide .result)
+  count e =
+      ⊎-elim
+      (λ u. absurd (true≢false (sym (u .0 .taken) ∙ sym (u .1) ∙ e)))
+      (λ u. (u .0 .left, ltb-false (c .before .wide .result) 128 (sym (u .1) ∙ e)))
+      (c .if1 .came)
 
 returns : tie.Need-returns Inv-loop μ-loop
 returns c =
     let b = c .before .before .before .before .before .before .before .before in
-    let l = c .before .before .before .before .before .before .loop in
-    let z = l .inv .none (c .before .before .if1 .taken) in
-    let x = ap (octet (b .args .s .now)) (sym (z .0)) ∙ sym (c .before .before .before .wide .ensures) in
-    sym (length-beyond (b .args .s .now) (b .args .at) (b .args .stop) (omega (arith, x, z .1 .0)))
+    sym (length-beyond _ _ _ (read-beyond _ _ _ (b .pre .1) (c .before .before .before .before .before .before .loop .inv) (c .before .before .before .before .before .loop-test .taken) (c .if3 .taken)))
+
+add-n : tie.Need-add-n Inv-loop μ-loop
+add-n c = omega (arith, c .before .before .before .wide .ensures, c .before .before .before .before .shared-slice-known2 .given (c .before .before .before .before .before .before .loop .i))
 
 returns-2 : tie.Need-returns-2 Inv-loop μ-loop
 returns-2 c =
-    let b = c .before .before .before .before .before .before .before in
-    sym (length-beyond _ _ _ (read-beyond _ _ _ (b .pre .1) (c .before .before .before .before .before .loop .inv) (c .before .if1 .left) (c .before .before .before .before .loop-test .taken) (c .if4 .taken)))
-
-add-n : tie.Need-add-n Inv-loop μ-loop
-add-n c = omega (arith, c .before .before .wide .ensures, c .before .before .before .shared-slice-known2 .given (c .before .before .before .before .before .loop .i))
+    let b = c .before .before .before .before .before .before .before .before in
+    let z = c .before .before .before .before .before .before .loop .inv .none (count (c .before .before) (c .before .if2 .left) .0) in
+    let x = ap (octet (b .args .s .now)) (sym (z .0)) ∙ sym (c .before .before .before .wide .ensures) in
+    sym (length-beyond (b .args .s .now) (b .args .at) (b .args .stop) (omega (arith, x, z .1 .0)))
 
 loop-again : tie.Need-loop-again Inv-loop μ-loop
 loop-again c =
-    let b = c .before .before .before .before .before .before in
-    let l = c .before .before .before .before .loop in
-    let x = c .before .wide .ensures in
-    let first = read-first (b .args .s .now) (b .args .at) (b .args .stop) in
+    let b = c .before .before .before .before .before .before .before in
+    let l = c .before .before .before .before .before .loop in
+    let x = c .before .before .wide .ensures in
     ⊎-elim
     (λ w.
-    let z = l .inv .none (w .0 .taken) in
-    first
-    (z .0)
-    (λ k. w .3 ∙ x)
-    (λ k. absurd (omega (arith, x, w .1 .taken)))
-    (omega (arith, x, w .1 .taken, w .2, z .1 .0))
-    (omega (arith, w .2)))
-    (⊎-elim
+    let short : l .later ≡ false → octet (b .args .s .now) (l .i) < 128 = λ f. omega (arith, x, digit (c .before) (w .0 .taken) f) in
+    rw (w .2, w .3, x) (read-digit _ _ _ (b .pre .1) (l .inv) short (c .before .before .before .before .loop-test .taken)))
     (λ w.
-    let z = l .inv .none (w .0 .taken) in
-    first
-    (z .0)
-    (λ k. absurd (omega (arith, x, w .1 .left)))
-    (λ k. w .4 ∙ z .1 .1)
-    (omega (arith, x, w .1 .left, w .3, z .1 .0))
-    (omega (arith, w .1 .left, w .2 .left, w .3)))
-    (λ w. rw (w .2, w .3, x) (read-digit (b .args .s .now) (b .args .at) (b .args .stop) (b .pre .1) (l .inv) (w .0 .left) (c .before .before .before .loop-test .taken))))
-    (c .if1 .came)
+    let k = count (c .before) (w .0 .left) in
+    let z = l .inv .none (k .0) in
+    read-count _ _ (b .args .stop) (z .0) (w .3 ∙ z .1 .1) (omega (arith, x, k .1)) (omega (arith, x, w .2, z .1 .0)) (omega (arith, w .2, w .1 .left)))
+    (c .if2 .came)
 
 returns-3 : tie.Need-returns-3 Inv-loop μ-loop
 returns-3 c =
@@ -84,10 +88,12 @@ length-at-spec =
     (λ c. search needs)
     returns
     (λ c. search needs)
-    (λ c. search needs)
-    returns-2
-    (λ c. search needs)
     add-n
+    (λ c. search needs)
+    (λ c. count (c .before) (c .if2 .left) .1)
+    returns-2
+    (λ c. count (c .before .before) (c .before .if2 .left) .1)
+    (λ c. search needs)
     (λ c. search needs)
     (λ c. search needs)
     loop-again
