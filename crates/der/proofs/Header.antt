@@ -2,11 +2,11 @@
 use Prim.Native.Nat.{ℕ, _+_, _-_, _*_, _/_, _%_, _≤_, _<_}
 use native.Mathlib.Omega.{arith}
 use mathlib.Core.Bool.{Bool, true, false, not, and-eq-true-iff, true≢false, false≢true}
-use mathlib.Core.List.{List, []}
+use mathlib.Core.List.{List, [], _∷_}
 use mathlib.Core.Path.{_≡_, refl, sym, ap, _∙_}
 use lib.ListN.{length}
-use lib.Dec.{ltb, leb, eqb}
-use borrow.Author.Tests.{ltb-true, ltb-false, leb-true, leb-false, eqb-true, eqb-false, not-true, lt-ltb, le-ltb, le-leb, lt-leb, eq-eqb, ne-eqb}
+use lib.Dec.{leb, eqb}
+use borrow.Author.Tests.{leb-true, leb-false, eqb-false, not-true, lt-ltb, le-ltb, le-leb, lt-leb, eq-eqb, ne-eqb}
 use Rattle.octets.specs.Octets.{octet, slice}
 use Rattle.octets.specs.Number.{numberFrom}
 use Rattle.octets.proofs.Lists.{by-test, both}
@@ -70,8 +70,8 @@ module _ (s : List ℕ) (at stop : ℕ) where
 -- the length octets
 
 module _ (s : List ℕ) (at : ℕ) where
-  pub length-short : octet s (at + 1) < 128 → numberFrom (0 * 256 + octet s (at + 1)) [] ≡ lengthAt s at
-  unfolding lengthAt numberFrom
+  pub length-short : octet s (at + 1) < 128 → numberFrom 0 (octet s (at + 1) ∷ []) ≡ lengthAt s at
+  unfolding lengthAt
   length-short l = rw (lt-ltb _ _ l, lengthAt)
 
   pub length-long : 128 ≤ octet s (at + 1) → numberFrom 0 (slice s (at + 2) (contentsAt s at)) ≡ lengthAt s at
@@ -110,6 +110,7 @@ module _ (s : List ℕ) (at stop : ℕ) where
   module _ (inside : stop ≤ length s) {start n i : ℕ} {later : Bool} (r : ReadTo s at stop start n i later) where
     -- every other octet is a digit
     pub read-digit : (later ≡ false → octet s i < 128) → i < start → ReadTo s at stop start (n * 256 + octet s i) (i + 1) true
+    unfolding numberFrom
     read-digit short l = record { upto = omega arith; ends = r .ends; none = λ m. absurd (true≢false m); some = λ m. by-test later more only }
       where
         Read : Type 0

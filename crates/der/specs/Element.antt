@@ -13,15 +13,16 @@ use Rattle.der.specs.declared.Element.{Element}
 abbrev pub absent : ℕ → Element
 absent at = record { valid = false; tag = 0; at = at; start = at; stop = at }
 
--- X.690, 8.1.3: every length octet is a digit of the length, to the base 256, but a first one of 128 or more: that one says how many length octets stand after
--- it. (The difference is cut off at 0: after a first octet below 128 stands none.)
+-- X.690, 8.1.3: every length octet is a digit of the length, to the base 256, but a first one of 128 or more:
+-- that one says how many length octets stand after it. (The difference is cut off at 0: after a first octet below 128 stands none.)
 abbrev pub lengthOctetsAfter : ℕ → ℕ
 lengthOctetsAfter first = first - 128
 
--- where the contents begin
+-- where the contents begin, after the length octets
 abbrev pub contentsAt : List ℕ → ℕ → ℕ
 contentsAt s at = at + 2 + lengthOctetsAfter (octet s (at + 1))
 
+-- the length that they say
 unfoldable pub lengthAt : List ℕ → ℕ → ℕ
 lengthAt s at =
     let first = octet s (at + 1) in

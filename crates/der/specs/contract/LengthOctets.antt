@@ -1,4 +1,5 @@
--- 02, E5 (specs/LengthOctets) for the code: where the promises of `length_at` and `is_shortest` meet the promise of `put_length`.
+-- 02, E5 (specs/LengthOctets) for the code: where the promises of `length_at` and `is_shortest` meet that of `put_length`. `Read` and `Put` are these promises;
+-- `promise`, in the proof of each of the three functions, holds them to its contract.
 use Prim.Native.Nat.{ℕ, _+_, _-_, _^_, _≤_, _<_}
 use mathlib.Core.Bool.{Bool, true}
 use mathlib.Core.List.{List}

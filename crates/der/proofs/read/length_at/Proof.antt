@@ -8,6 +8,7 @@ use mathlib.Core.Logic.{⊎-elim}
 use mathlib.Core.Path.{_≡_, sym, ap, _∙_}
 use Rattle.octets.specs.Octets.{octet}
 use Rattle.octets.proofs.wide.Reads as wide-reads
+use Rattle.der.specs.contract.Reading.{lengthIn}
 use Rattle.der.proofs.Header.{ReadTo, read-none, read-count, read-digit, read-beyond, read-all, length-beyond, length-of}
 use Rattle.der.proofs.read.length_at.Statement.{statement}
 use Rattle.der.proofs.read.length_at.Reads as reads
@@ -73,6 +74,10 @@ returns-4 c =
     let b = c .before .before .before .before in
     let a = read-all (b .args .s .now) (b .args .at) (b .args .stop) (b .pre .1) (c .before .before .loop .inv) (c .before .loop-test .left) in
     rw (a .0, a .1) (sym (length-of _ _ _ (omega (arith, a .0, a .1))))
+
+-- the contract, as 02, E5 is stated of it (specs/contract/LengthOctets: `Read`)
+promise : (κs : _) (a : _) (r : _) (e : _) → reads.Post κs a r e → r ≡ lengthIn (a .0 .now) (a .1 .0) (a .1 .1 .0)
+promise κs a r e p = p
 
 pub length-at-spec : {M : Type 1} → statement M
 length-at-spec =

@@ -9,6 +9,8 @@ use Rattle.octets.specs.Number.{bigEndian, digits}
 use Rattle.octets.proofs.Placed.{length-placed, placed-one, placed-cons}
 use Rattle.octets.proofs.Number.{length-digits, length-bigEndian, digits-bigEndian}
 use Rattle.der.proofs.Writes.{short-octets, long-octets}
+use Rattle.der.specs.contract.LengthOctets.{Put}
+use Rattle.der.proofs.write.put_length.Reads as reads
 use Rattle.der.proofs.write.put_length.Statement.{statement}
 use Rattle.der.proofs.write.put_length.Tie as tie
 
@@ -57,6 +59,10 @@ returns-2 c =
           ∙ placed-cons (a .buf .now) (a .at) (128 + k) (digits 256 8 (a .n)) (omega (arith, ap length o))
           ∙ ap (placed (a .buf .now) (a .at)) (rw e (sym o)),
     )
+
+-- the contract, as 02, E5 is stated of it (specs/contract/LengthOctets: `Put`)
+promise : (κs : _) (a : _) (r : _) (e : _) → reads.Post κs a r e → Put (a .0 .now) (a .1 .0) (a .1 .1 .0) r (e .0 .now)
+promise κs a r e p = p
 
 pub put-length-spec : {M : Type 1} → statement M
 put-length-spec =
