@@ -38,7 +38,7 @@ fn length_at(s: &[u8], at: usize, stop: usize) -> Length
     while i < start {
         let x = octets::wide(s[i]);
         if later || x < 128 {
-            // with one more digit it would pass the window's end; so it never wraps
+            // one digit more, and the length would pass the window's end: so it never wraps
             if (stop - start) / 256 < n {
                 return Length::Beyond;
             }

@@ -90,19 +90,30 @@ number-bigEndian (suc k) n h =
     ∙ ap (λ (m : ℕ). m * 256 + n % 256) (number-bigEndian k (n / 256) (div-lt-iff-lt-mul (lit< tt) .1 (rw (pow-suc 256 k) at h)))
     ∙ div-add-mod' n 256
 
+-- all octets but the last, and the last
+module _ (s : List ℕ) (k : ℕ) (e : length s ≡ suc k) where
+  all-but-last : take k s ++ (getD s k 0 ∷ []) ≡ s
+  all-but-last = sym (take-suc s k 0 (omega arith)) ∙ take-all (suc k) s (omega arith)
+
+  number-last : number s ≡ number (take k s) * 256 + getD s k 0
+  unfolding numberFrom
+  number-last = ap number (sym all-but-last) ∙ number-append 0 (take k s) (getD s k 0 ∷ [])
+
+  module _ (o : Octets s) where
+    front-digits : number s / 256 ≡ number (take k s)
+    front-digits = ap (λ (n : ℕ). n / 256) number-last ∙ digits-div (number (take k s)) (o k)
+
+    last-digit : number s % 256 ≡ getD s k 0
+    last-digit = ap (λ (n : ℕ). n % 256) number-last ∙ digits-mod (number (take k s)) (o k)
+
 bigEndian-of : (k : ℕ) (s : List ℕ) → length s ≡ k → Octets s → bigEndian k (number s) ≡ s
-unfolding bigEndian numberFrom
+unfolding bigEndian
 bigEndian-of zero [] e o = refl
 bigEndian-of zero (x ∷ s) e o = absurd (omega (arith, e))
 bigEndian-of (suc k) s e o =
-    let n : number s ≡ number (take k s) * 256 + getD s k 0 =
-    ap number (sym (take-all (k + 1) s (omega arith))) ∙ number-turn s k (omega arith)
-    in
-    ap (bigEndian (suc k)) n
-    ∙ ap₂ (λ (q r : ℕ). bigEndian k q ++ (r ∷ [])) (digits-div (number (take k s)) (o k)) (digits-mod (number (take k s)) (o k))
+    ap₂ (λ (q r : ℕ). bigEndian k q ++ (r ∷ [])) (front-digits s k e o) (last-digit s k e o)
     ∙ ap (λ (r : List ℕ). r ++ (getD s k 0 ∷ [])) (bigEndian-of k (take k s) (length-take-le k s (omega arith)) (octets-take s k o))
-    ∙ sym (take-suc s k 0 (omega arith))
-    ∙ take-all (suc k) s (omega arith)
+    ∙ all-but-last s k e
 
 pub bigEndian-number : (s : List ℕ) → Octets s → bigEndian (length s) (number s) ≡ s
 bigEndian-number s o = bigEndian-of (length s) s refl o
@@ -191,23 +202,14 @@ digits-number (suc k) s o f h = go (digits-number k) s o f h
     go ih (x ∷ s) o f h =
         let m = length s in
         let t = x ∷ s in
-        let q = number (take m t) in
-        let r = getD t m 0 in
-        let n : number t ≡ q * 256 + r =
-        ap number (sym (take-all (m + 1) t (omega arith))) ∙ number-turn t m (omega arith)
-        in
+        let front = front-digits t m refl o in
         let z : number t ≡ 0 → ⊥ = λ e. f (omega arith) (omega (arith, e, number-grows (0 * 256 + x) s)) in
-        let d : number t / 256 ≡ q = ap (λ (v : ℕ). v / 256) n ∙ digits-div q (o m) in
-        let l : number t % 256 ≡ r = ap (λ (v : ℕ). v % 256) n ∙ digits-mod q (o m) in
-        let front : NoZeroInFront (take m t) =
-        λ p e. f (omega arith) (sym (getD-take m t 0 0 (omega (arith, length-take m t, p))) ∙ e)
-        in
-        let b : q < 256 ^ k = rw d at (div-lt-iff-lt-mul (lit< tt) .1 (rw (pow-suc 256 k) at h)) in
+        let g : NoZeroInFront (take m t) = λ p e. f (omega arith) (sym (getD-take m t 0 0 (omega (arith, length-take m t, p))) ∙ e) in
+        let b : number (take m t) < 256 ^ k = rw front at (div-lt-iff-lt-mul (lit< tt) .1 (rw (pow-suc 256 k) at h)) in
         digits-turn 256 k (number t) z
-        ∙ ap₂ (λ (v w : ℕ). digits 256 k v ++ (w ∷ [])) d l
-        ∙ ap (λ (u : List ℕ). u ++ (r ∷ [])) (ih (take m t) (octets-take t m o) front b)
-        ∙ sym (take-suc t m 0 (omega arith))
-        ∙ take-all (suc m) t (omega arith)
+        ∙ ap₂ (λ (q r : ℕ). digits 256 k q ++ (r ∷ [])) front (last-digit t m refl o)
+        ∙ ap (λ (u : List ℕ). u ++ (getD t m 0 ∷ [])) (ih (take m t) (octets-take t m o) g b)
+        ∙ all-but-last t m refl
 
 -- no digit in front is zero
 pub digits-front : (k n : ℕ) → n < 256 ^ k → NoZeroInFront (digits 256 k n)
