@@ -1,4 +1,6 @@
 // Acceptance: the rows 10, 16, 38, 23, 11 and 21 of 01's table, that is signer, target, rights and number.
+#![tactic(auto)]
+
 mod target;
 
 ghost use Rattle.std.specs.Prelude.{◌≡◌};
@@ -17,7 +19,7 @@ use syntax::TampType;
 
 // The signer of a message, as the rows after 16 find it: its position among the anchors, the place of its record in the image, and the value of its
 // content constraints in the record's TrustAnchorInfo.
-#[derive(Drop)]
+#[derive(Clone, Copy)]
 pub struct Signer {
     pub position: usize,
     pub place: usize,
@@ -25,7 +27,7 @@ pub struct Signer {
 }
 
 // What the rows decide: a refusal, or what an accepted message asks and its signer.
-#[derive(Drop)]
+#[derive(Clone, Copy)]
 pub enum Acceptance {
     Accepted(Request, Signer),
     Refused(Refusal),

@@ -12,7 +12,7 @@ use crate::info::root;
 use der::{Compared, Element};
 
 // What content constraints break: a repeated type or value, an anyContentType entry unlike Rights, and the limits of Rights.
-#[derive(Drop)]
+#[derive(Clone, Copy)]
 pub struct Faults {
     pub repeated: bool,
     pub unlike: bool,

@@ -21,7 +21,7 @@ use message::Request;
 use octets::Status;
 
 // What additions of communities come to.
-#[derive(Drop)]
+#[derive(Clone, Copy)]
 enum Grown {
     // the length of the section
     To(usize),

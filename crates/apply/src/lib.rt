@@ -1,4 +1,6 @@
 // What an accepted message does to the store (01, After acceptance).
+#![tactic(auto)]
+
 ghost use Rattle.std.specs.Prelude.{◌≡◌, ◌≤◌, length};
 ghost use Rattle.octets.specs.Limits.{max_updates};
 ghost use Rattle.message.specs.declared.Received.TheVariants.{Asks};
@@ -14,7 +16,7 @@ mod community;
 mod update;
 
 // What an accepted message comes to: the status of the call, and the length of the next store.
-#[derive(Drop)]
+#[derive(Clone, Copy)]
 pub struct Done {
     pub status: Status,
     pub len: usize,

@@ -25,7 +25,7 @@ use octets::Status;
 use store::{Position, Sought};
 
 // What an entry of an Update comes to.
-#[derive(Drop)]
+#[derive(Clone, Copy)]
 enum Applied {
     // 0: the length of the image, and how many of the anchors after the apex stood before this message
     Done(usize, usize),
@@ -34,7 +34,7 @@ enum Applied {
 }
 
 // What an entry leaves: its status, the length of the image, and how many of the anchors after the apex stood before this message.
-#[derive(Drop)]
+#[derive(Clone, Copy)]
 struct Entered {
     code: u8,
     len: usize,
@@ -42,7 +42,7 @@ struct Entered {
 }
 
 // What all entries leave.
-#[derive(Drop)]
+#[derive(Clone, Copy)]
 struct Marks {
     len: usize,
     old: usize,

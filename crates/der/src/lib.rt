@@ -1,4 +1,6 @@
 // DER as 01 profiles it (X.690): the types of all that reads it, and the identifier octets.
+#![tactic(auto)]
+
 
 mod check;
 mod read;
@@ -12,7 +14,7 @@ pub use write::{header_size, integer_size, put_header, put_integer};
 
 // An element: its identifier octet, where it begins, and its contents, from start up to stop.
 // Where no element stands at a place, valid is false, the tag is 0 and nothing is inside.
-#[derive(Drop)]
+#[derive(Clone, Copy)]
 pub struct Element {
     pub valid: bool,
     pub tag: u8,
@@ -22,14 +24,14 @@ pub struct Element {
 }
 
 // Whether octets keep a rule; if not, the offset of the element that breaks it.
-#[derive(Drop)]
+#[derive(Clone, Copy)]
 pub enum Fit {
     Fits,
     Breaks(usize),
 }
 
 // What the members of a run are compared by: the type that stands in them, their contents, or all their octets.
-#[derive(Drop)]
+#[derive(Clone, Copy)]
 pub enum Compared {
     Types,
     Contents,
@@ -37,7 +39,7 @@ pub enum Compared {
 }
 
 // An element that was looked for. (One whose header breaks a rule is an element of a run too, so `valid` could not say that there is none.)
-#[derive(Drop)]
+#[derive(Clone, Copy)]
 pub enum Found {
     At(Element),
     Nowhere,

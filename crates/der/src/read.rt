@@ -6,7 +6,7 @@ ghost use Rattle.der.specs.Contract.Reading.{length_in, next_at};
 use crate::Element;
 
 // What the length octets of an element say: where its contents begin and how many octets they are, or that they pass the window's end.
-#[derive(Drop)]
+#[derive(Clone, Copy)]
 enum Length {
     Of(usize, usize),
     Beyond,

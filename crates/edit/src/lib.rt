@@ -1,4 +1,6 @@
 // Edits on a scratch image: a lent buffer that holds an image in its first `len` octets, with free room after it.
+#![tactic(auto)]
+
 ghost use Rattle.std.specs.Prelude.{◌≡◌, ◌++◌, ◌+◌, ◌<◌, ◌≤◌, length, take, drop};
 ghost use Rattle.std.proofs.Math.Option.{some};
 ghost use Rattle.octets.specs.Octets.{placed};

@@ -1,4 +1,6 @@
 // The signed wrapper of a message (RFC 5652): rows 1 to 8 of 01's table of answers.
+#![tactic(auto)]
+
 ghost use Rattle.std.specs.Prelude.{◌≡◌, false, not, ◌&&◌, ◌||◌, List, ℕ};
 ghost use Rattle.octets.specs.Octets.{ordered};
 ghost use Rattle.der.specs.Element.{encoding as encodingOf, contents as contentsOf, inside, field};
@@ -19,7 +21,7 @@ use repeats::Repeat;
 use syntax::{AttributeForm, Form, ID_CONTENT_TYPE, ID_MESSAGE_DIGEST, Recognised, TampType};
 
 // What the wrapper holds, as parts of the message.
-#[derive(Drop)]
+#[derive(Clone, Copy)]
 pub struct Signed {
     pub kind: TampType,
     // eContentType
@@ -34,7 +36,7 @@ pub struct Signed {
 
 // A refusal that depends on the message alone: its status, the offset of the element that breaks the rule, and what its reply repeats of the message:
 // msgType (none: no reply) and msgRef (none: without it).
-#[derive(Drop)]
+#[derive(Clone, Copy)]
 pub struct Refusal {
     pub status: Status,
     pub offset: usize,
@@ -42,14 +44,14 @@ pub struct Refusal {
     pub msgref: Element,
 }
 
-#[derive(Drop)]
+#[derive(Clone, Copy)]
 pub enum Envelope {
     Opened(Signed),
     Refused(Refusal),
 }
 
 // 01, Answers: "The first that applies is given": what the rows so far give.
-#[derive(Drop)]
+#[derive(Clone, Copy)]
 pub enum Given {
     Nothing,
     First(Refusal),

@@ -1,5 +1,7 @@
 // The listing of a store image (01, Checked examples). Each function but the two public ones writes its part of the text into a lent buffer from a place on
 // and gives the place after it.
+#![tactic(auto)]
+
 ghost use Rattle.std.specs.Prelude.{◌≡◌, ◌+◌, ◌≤◌, ◌<◌, [], ◌∷◌, length, drop};
 ghost use Rattle.octets.specs.Octets.{placed, written};
 ghost use Rattle.store.specs.Listing.{hex_digit, hex, decimal, count_line, listing};

@@ -1,4 +1,6 @@
 // The four TAMP messages (RFC 5934): rows 36, 31 and 127 of 01's table, and what a message asks.
+#![tactic(auto)]
+
 ghost use Rattle.std.specs.Prelude.{◌≡◌, length};
 ghost use Rattle.der.specs.Element.{encoding as encodingOf, contents as contentsOf, inside};
 ghost use Rattle.der.specs.Fit.{applies_if};
@@ -12,7 +14,7 @@ use octets::Status;
 use syntax::{Form, TampType};
 
 // What a message asks that passes the rows up to 127, as parts of it.
-#[derive(Drop)]
+#[derive(Clone, Copy)]
 pub struct Request {
     pub kind: TampType,
     // eContentType
@@ -33,14 +35,14 @@ pub struct Request {
 }
 
 // What depends on the message alone: what it asks, or its refusal.
-#[derive(Drop)]
+#[derive(Clone, Copy)]
 pub enum Received {
     Asks(Request),
     Refused(Refusal),
 }
 
 // An entry of an Update: an added TrustAnchorInfo, an added certificate or tbsCert, a removed key as the message tags it, or a change.
-#[derive(Drop)]
+#[derive(Clone, Copy)]
 pub enum Entry {
     Add(Element),
     AddCertificate,

@@ -1,4 +1,6 @@
 // Octets: strings of them, numbers in them, the limits of 01 on them; and the one status type of the project.
+#![tactic(auto)]
+
 ghost use Rattle.std.specs.Prelude.{◌≡◌};
 ghost use Rattle.octets.specs.First.{refuses as isRefusal, or_status};
 
@@ -15,7 +17,7 @@ pub use numbers::{digit_count, get_be, put_be, wide};
 pub use strings::{copy_to, equal, in_order, move_down, move_up, slice};
 
 // A number of 01, "Answers": a TAMP status (RFC 5934, section 5) or a house refusal.
-#[derive(Drop)]
+#[derive(Clone, Copy)]
 pub struct Status {
     pub number: u8,
 }

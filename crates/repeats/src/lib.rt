@@ -1,6 +1,8 @@
 // Repeats: whether two members of lists have the same key. The members' places are sorted by key, so that a search of twelve steps leads from a key to the
 // member that has it. Nothing is claimed of that order: a key that leads to its own member, after all that those before it led to, is new, whatever the
 // order is, since equal keys lead to one place. From the first key on that does not, members are compared.
+#![tactic(auto)]
+
 ghost use Rattle.std.specs.Prelude.{◌≡◌, true, false, ◌&&◌, ◌++◌, ◌+◌, ◌<◌, ◌≤◌, length, get_or, eqb};
 ghost use Rattle.octets.specs.Octets.{member, distinct};
 ghost use Rattle.der.specs.Element.{inside};
@@ -11,7 +13,7 @@ ghost use Rattle.repeats.specs.Contract.Order.{are_few, cells, key_at, is_before
 use der::{Compared, Element};
 
 // The place of the first member whose key stood before.
-#[derive(Drop)]
+#[derive(Clone, Copy)]
 pub enum Repeat {
     Never,
     At(usize),

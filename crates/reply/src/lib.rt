@@ -1,4 +1,6 @@
 // The replies of 01: TAMP content in terse form, unsigned (RFC 5934). Built by one writer that keeps the lent reply buffer and its place in it.
+#![tactic(auto)]
+
 ghost use Rattle.std.specs.Prelude.{◌≡◌, List, [], ◌∷◌, ◌++◌, map, ◌+◌, ◌^◌, ◌≤◌, ◌<◌, length};
 ghost use Rattle.octets.specs.Octets.{placed};
 ghost use Rattle.octets.specs.declared.Status.{Status};
@@ -19,14 +21,14 @@ pub struct Writer<'a> {
 }
 
 // What a reply lists of an image.
-#[derive(Drop)]
+#[derive(Clone, Copy)]
 pub enum Listed {
     Identifiers,
     Communities,
 }
 
 // A part of a reply, of octets that are given with it.
-#[derive(Drop)]
+#[derive(Clone, Copy)]
 pub enum Part {
     // the octets themselves
     Octets,

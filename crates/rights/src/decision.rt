@@ -14,7 +14,7 @@ use crate::{any_entry, constraint_for, entries, governing, is_source, lists};
 use der::{Compared, Element, Found};
 
 // How a content of one type lies outside the signer's rights.
-#[derive(Drop)]
+#[derive(Clone, Copy)]
 enum Excess {
     // as a carrier's: no entry of the signer governs the type
     Carried,
@@ -27,21 +27,21 @@ enum Excess {
 }
 
 // The contents of one type.
-#[derive(Drop)]
+#[derive(Clone, Copy)]
 enum TypeAnswer {
     Within,
     Outside(Excess),
 }
 
 // The first entry whose type has a content outside.
-#[derive(Drop)]
+#[derive(Clone, Copy)]
 enum Picked {
     Nothing,
     Entry(Element, Excess),
 }
 
 // Who lists a type: the new anchor or the signer, in this entry, or neither, and then it is 1.2.n.
-#[derive(Drop)]
+#[derive(Clone, Copy)]
 enum Lister {
     New(Element),
     Signer(Element),
@@ -49,7 +49,7 @@ enum Lister {
 }
 
 // Whether the new anchor is within the signer; if not, a content that lies outside, by its parts.
-#[derive(Drop)]
+#[derive(Clone, Copy)]
 enum RightsAnswer {
     Within,
     Outside(Lister, Excess),

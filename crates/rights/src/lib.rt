@@ -1,6 +1,8 @@
 // Rights: what an anchor's content constraints authorise (RFC 6010, 01 "Rights"). They are read in place and never copied: the octets of a
 // CMSContentConstraints value stand for the rights that they give. An identity anchor has no octets.
 // Here the entries and constraints are found, for both questions: whether a content is authorised, and whether an anchor is within a signer.
+#![tactic(auto)]
+
 ghost use Rattle.std.specs.Prelude.{◌≡◌};
 ghost use Rattle.octets.specs.Octets.{member};
 ghost use Rattle.der.specs.Element.{root};

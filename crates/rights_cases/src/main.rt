@@ -1,4 +1,6 @@
 // Runs cases about rights from standard input and prints an answer for each: within or not, authorised or not. tools/rights_cases.py has the format.
+#![tactic(auto)]
+
 ghost use Rattle.std.specs.Prelude.{◌≡◌, ◌+◌, ◌<◌, ◌≤◌, length};
 ghost use Rattle.rights.specs.Rights.{authorises};
 ghost use Rattle.rights.specs.Decision.{within};

@@ -1,5 +1,7 @@
 // The store: its image, the records in it, and its listing (01, The store image).
 // Everything here takes any octets, an image or not; what it says of an image is in proofs/Parts.
+#![tactic(auto)]
+
 ghost use Rattle.std.specs.Prelude.{◌≡◌, ◌+◌, ◌<◌, min, ◌∷◌, map, length, drop, eqb};
 ghost use Rattle.octets.specs.Octets.{octet, same, member};
 ghost use Rattle.store.specs.Records.{records_of};
@@ -9,7 +11,7 @@ ghost use Rattle.store.specs.Contract.Parts.{number_in, number_of, community_pla
 ghost use Rattle.store.specs.Contract.Parts.{is_sought, first_from, infos_from};
 
 // The signer among the anchors (01, Answers).
-#[derive(Drop)]
+#[derive(Clone, Copy)]
 pub enum FoundSigner {
     // the position of the first anchor with the identifier and verdict 1
     At(usize),
@@ -20,14 +22,14 @@ pub enum FoundSigner {
 }
 
 // An anchor's number, if it has one.
-#[derive(Drop)]
+#[derive(Clone, Copy)]
 pub enum Number {
     Absent,
     Is(u64),
 }
 
 // What an anchor is sought by.
-#[derive(Drop)]
+#[derive(Clone, Copy)]
 pub enum Sought {
     PublicKey,
     // a public key as a message tags it: its first octet is read as 30
@@ -35,7 +37,7 @@ pub enum Sought {
 }
 
 // The position of what is sought.
-#[derive(Drop)]
+#[derive(Clone, Copy)]
 pub enum Position {
     At(usize),
     Nothing,

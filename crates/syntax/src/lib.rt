@@ -1,4 +1,6 @@
 // The ASN.1 of RFC 5652, 5934, 5914, 5280 and 6010 as data, and matching against it: the types that readers ask with, and the four TAMP types.
+#![tactic(auto)]
+
 ghost use Rattle.std.specs.Prelude.{◌≡◌};
 ghost use Rattle.syntax.specs.Types.{recognised};
 ghost use Rattle.syntax.specs.Contract.TypeTable.{type_table, type_at};
@@ -12,7 +14,7 @@ pub use matcher::{attribute_fits, fits};
 pub use walk::conforms;
 
 // The four messages of 01.
-#[derive(Drop)]
+#[derive(Clone, Copy)]
 pub enum TampType {
     StatusQuery,
     Update,
@@ -21,14 +23,14 @@ pub enum TampType {
 }
 
 // Whether a content type is one of the four.
-#[derive(Drop)]
+#[derive(Clone, Copy)]
 pub enum Recognised {
     Tamp(TampType),
     Unknown,
 }
 
 // What a reader asks the matcher for.
-#[derive(Drop)]
+#[derive(Clone, Copy)]
 pub enum Form {
     ContentInfo,
     ContentInfoSignedData,
@@ -41,7 +43,7 @@ pub enum Form {
 }
 
 // An Attribute, by its type.
-#[derive(Drop)]
+#[derive(Clone, Copy)]
 pub enum AttributeForm {
     ContentType,
     MessageDigest,

@@ -8,7 +8,7 @@ ghost use Rattle.syntax.specs.Contract.Rows.{RowIs, rule_of, is_field, left_out}
 use crate::{AttributeForm, Form, TampType, table};
 
 // A row: its kind, a tag or a rule's argument, the row of the body, and that of what stands after.
-#[derive(Drop)]
+#[derive(Clone, Copy)]
 pub struct Row {
     pub kind: usize,
     pub argument: usize,
@@ -17,7 +17,7 @@ pub struct Row {
 }
 
 // Where the window goes on after a field, or the element that breaks it.
-#[derive(Drop)]
+#[derive(Clone, Copy)]
 pub enum Field {
     Behind(usize),
     Breaks(usize),

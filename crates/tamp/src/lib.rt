@@ -1,4 +1,6 @@
 // The call (01, Answers): from message, image and verdict to reply and next store.
+#![tactic(auto)]
+
 ghost use Rattle.std.specs.Prelude.{◌≡◌, ◌&&◌, ◌||◌, List, ℕ, ◌≤◌, length, leb, ltb, eqb};
 ghost use Rattle.std.proofs.Math.Option.{some};
 ghost use Rattle.octets.specs.Limits.{image_room, reply_room, max_message, max_updates};
@@ -21,7 +23,7 @@ use syntax::TampType;
 
 // What the call returns: the number, how much was written of the reply and of the next store, and where the message broke (02, E3).
 #[repr(C)]
-#[derive(Drop)]
+#[derive(Clone, Copy)]
 pub struct Answer {
     pub number: u32,
     pub reply_len: u64,

@@ -1,5 +1,7 @@
 // Reads calls from standard input until it ends and prints the answer to each: five 4-octet big-endian numbers (message length, image length, verdict length,
 // reply room, next store room), then the message, the image and the verdict.
+#![tactic(auto)]
+
 use libc::{STDIN_FILENO, STDOUT_FILENO};
 
 // So many octets are printed at a time.

@@ -1,4 +1,6 @@
 // The listing program (01, Checked examples): reads a store image from standard input and prints its listing.
+#![tactic(auto)]
+
 use libc::{STDIN_FILENO, STDOUT_FILENO};
 
 fn main() {

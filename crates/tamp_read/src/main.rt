@@ -1,5 +1,7 @@
 // Reads messages from standard input, each after its length (4 octets, big-endian), and prints what depends on the message alone: the status and the offset
 // of a refusal by the rows up to 127, or what the message asks: its type, the signer's key identifier, its number, and how many entries an Update has.
+#![tactic(auto)]
+
 use envelope::Refusal;
 use libc::{STDIN_FILENO, STDOUT_FILENO};
 use message::{Received, Request};
