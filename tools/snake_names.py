@@ -195,6 +195,8 @@ def main():
     for c in sorted(glob.glob("crates/*")):
         if os.path.isdir(f"{c}/specs/contract"):
             subprocess.run(["git", "mv", f"{c}/specs/contract", f"{c}/specs/Contract"], check=True)
+            for node in files(f"{c}/specs/contract.antt"):
+                subprocess.run(["git", "mv", node, f"{c}/specs/Contract.antt"], check=True)
             for lib in files(f"{c}/specs/Lib.antt"):
                 write(lib, re.sub(r"\bmod contract\b", "mod Contract", read(lib)))
     for c in sorted(glob.glob("crates/*")):

@@ -1,7 +1,6 @@
 // DER as 01 profiles it (X.690): the types of all that reads it, and the identifier octets.
 #![tactic(auto)]
 
-
 mod check;
 mod read;
 mod search;

@@ -3,7 +3,7 @@ use Prim.Native.Nat.{ℕ, ◌≤◌, ◌<◌}
 use native.Mathlib.Omega.{arith}
 use mathlib.Core.Bool.{Bool, true, false, not, ◌&&◌, ◌||◌, and-eq-true_iff, true≢false, false≢true}
 use mathlib.Core.List.{List, [], ◌∷◌, ◌++◌, map}
-use mathlib.Core.Path.{◌≡◌, refl, sym, ◌∙◌, ap, ap₂}
+use mathlib.Core.Path.{◌≡◌, refl, sym, ◌∙◌, ap, ap₂, subst}
 use lib.ListN.{length}
 use lib.Dec.{eqb}
 use borrow.Author.Tests.{eqb-true, eq-eqb}
@@ -125,7 +125,8 @@ keep_member p (x ∷ l) k m e =
     x
     l
     m
-    (λ q. rw (keep_in p x l (ap p (sym q) ∙ e), q) (member_head x (filter p l)))
+    (λ q.
+    subst (λ (y : List ℕ). member y (filter p (x ∷ l)) ≡ true) (sym q) (rw (keep_in p x l (ap p (sym q) ∙ e)) (member_head x (filter p l))))
     (λ h.
     by_test (p x)
     (λ t. rw (keep_in p x l t) (member_tail k x (filter p l) (keep_member p l k h e)))

@@ -1,0 +1,70 @@
+use native.Mathlib.Omega.{arith}
+use mathlib.Core.Bool.{true, false}
+use mathlib.Core.Path.{◌≡◌, sym, ap, ◌∙◌}
+use Rattle.octets.specs.Octets.{octet}
+use Rattle.der.specs.Contract.Reading.{length_in}
+use Rattle.der.proofs.Header.{read_none, read_beyond, read_all, length_beyond, length_of}
+use Rattle.der.proofs.read.length_at.Reads as reads
+use Rattle.der.proofs.read.length_at.Goals as goal
+
+-- -- what `later || x < 128` says
+-- module _ (c : goal.Joined-later) where
+--   digit : c.if-later.t-13 ≡ true → c.loop-i.later ≡ false → c.wide-x.result < 128
+--   digit e f = ⊎_elim (λ u. absurd (true≢false (sym u.0.taken ∙ f))) (λ u. ltb-true c.wide-x.result 128 (sym u.1 ∙ e)) c.if-later.branch
+--
+--   count : c.if-later.t-13 ≡ false → (c.loop-i.later ≡ false) × (128 ≤ c.wide-x.result)
+--   count e =
+--       ⊎_elim
+--       (λ u. absurd (true≢false (sym u.0.taken ∙ sym u.1 ∙ e)))
+--       (λ u. (u.0.left, ltb-false c.wide-x.result 128 (sym u.1 ∙ e)))
+--       c.if-later.branch
+
+pub returns-then-stop-start : goal.returns-then-stop-start
+returns-then-stop-start c =
+    sym (length_beyond _ _ _ (read_beyond _ _ _ c.requires.1 c.loop-i.invariant c.loop-i-test.true c.if-stop-start.true))
+
+pub overflow_add-n : goal.overflow_add-n
+overflow_add-n c = omega (arith, c.wide-x.ensures, c.shared_slice_known-in-loop-i-1.given c.loop-i.i)
+
+pub returns-then-stop-start-2 : goal.returns-then-stop-start-2
+returns-then-stop-start-2 c =
+    let z = c.loop-i.invariant.none (count c.before.before c.if-x-lt128.false-raw).0 in
+    let x = ap (octet c.args.s.now) (sym z.0) ∙ sym c.wide-x.ensures in
+    sym (length_beyond c.args.s.now c.args.at c.args.stop (omega (arith, x, z.1.0)))
+
+-- pub loop-i-preserved : goal.loop-i-preserved
+-- loop-i-preserved c =
+--     let l = c.loop-i in
+--     let x = c.wide-x.ensures in
+--     ⊎_elim
+--     (λ w.
+--     let short : l.later ≡ false → octet c.args.s.now l.i < 128 = λ f. omega (arith, x, digit c.before w.0.taken f) in
+--     rw (w.2, w.3, x) (read_digit _ _ _ c.requires.1 l.invariant short c.loop-i-test.true))
+--     (λ w.
+--     let k = count c.before w.0.left in
+--     let z = l.invariant.none k.0 in
+--     read_count _ _ c.args.stop z.0 (w.3 ∙ z.1.1) (omega (arith, x, k.1)) (omega (arith, x, w.2, z.1.0)) (omega (arith, w.2, w.1.left)))
+--     c.if-x-lt128.branch
+
+pub returns-then-stop-start-3 : goal.returns-then-stop-start-3
+returns-then-stop-start-3 c =
+    let a = read_all c.args.s.now c.args.at c.args.stop c.requires.1 c.loop-i.invariant c.loop-i-test.false in
+    sym (length_beyond _ _ _ (omega (arith, a.0, a.1)))
+
+pub returns : goal.returns
+returns c =
+    let a = read_all c.args.s.now c.args.at c.args.stop c.requires.1 c.loop-i.invariant c.loop-i-test.false in
+    rw (a.0, a.1) (sym (length_of _ _ _ (omega (arith, a.0, a.1))))
+
+-- the contract, as 02, E5 is stated of it (specs/Contract/LengthOctets: `Read`)
+promise : (κs : _) (a : _) (r : _) (e : _) → reads.Post κs a r e → r ≡ length_in a.0.now a.1.0 a.1.1.0
+promise κs a r e p = p
+
+pub loop-i-init : goal.loop-i-init
+loop-i-init c = read_none _ _ _ c.requires.0
+
+pub overflow_sub-x : goal.overflow_sub-x
+overflow_sub-x c = (count c.before c.if-x-lt128.false-raw).1
+
+pub overflow_sub-start : goal.overflow_sub-start
+overflow_sub-start c = (count c.before.before c.if-x-lt128.false-raw).1
