@@ -1,23 +1,15 @@
 use native.Mathlib.Omega.{arith}
-use mathlib.Core.Bool.{true, false}
+use mathlib.Core.Bool.{true, false, true≢false}
+use mathlib.Core.Logic.{⊎_elim}
+use Prim.Native.Nat.{◌<◌}
 use mathlib.Core.Path.{◌≡◌, sym, ap, ◌∙◌}
 use Rattle.octets.specs.Octets.{octet}
 use Rattle.der.specs.Contract.Reading.{length_in}
-use Rattle.der.proofs.Header.{read_none, read_beyond, read_all, length_beyond, length_of}
+use Rattle.der.proofs.Header.{read_digit, read_count, read_none, read_beyond, read_all, length_beyond, length_of}
 use Rattle.der.proofs.read.length_at.Reads as reads
+use Rattle.der.proofs.read.length_at.Goals.{then-x-lt128+else-stop-start, else-x-lt128+else-stop-start-2}
 use Rattle.der.proofs.read.length_at.Goals as goal
 
--- -- what `later || x < 128` says
--- module _ (c : goal.Joined-later) where
---   digit : c.if-later.t-13 ≡ true → c.loop-i.later ≡ false → c.wide-x.result < 128
---   digit e f = ⊎_elim (λ u. absurd (true≢false (sym u.0.taken ∙ f))) (λ u. ltb-true c.wide-x.result 128 (sym u.1 ∙ e)) c.if-later.branch
---
---   count : c.if-later.t-13 ≡ false → (c.loop-i.later ≡ false) × (128 ≤ c.wide-x.result)
---   count e =
---       ⊎_elim
---       (λ u. absurd (true≢false (sym u.0.taken ∙ sym u.1 ∙ e)))
---       (λ u. (u.0.left, ltb-false c.wide-x.result 128 (sym u.1 ∙ e)))
---       c.if-later.branch
 
 pub returns-then-stop-start : goal.returns-then-stop-start
 returns-then-stop-start c =
@@ -28,23 +20,10 @@ overflow_add-n c = omega (arith, c.wide-x.ensures, c.shared_slice_known-in-loop-
 
 pub returns-then-stop-start-2 : goal.returns-then-stop-start-2
 returns-then-stop-start-2 c =
-    let z = c.loop-i.invariant.none (count c.before.before c.if-x-lt128.false-raw).0 in
+    let z = c.loop-i.invariant.none c.if-x-lt128.false.0 in
     let x = ap (octet c.args.s.now) (sym z.0) ∙ sym c.wide-x.ensures in
     sym (length_beyond c.args.s.now c.args.at c.args.stop (omega (arith, x, z.1.0)))
 
--- pub loop-i-preserved : goal.loop-i-preserved
--- loop-i-preserved c =
---     let l = c.loop-i in
---     let x = c.wide-x.ensures in
---     ⊎_elim
---     (λ w.
---     let short : l.later ≡ false → octet c.args.s.now l.i < 128 = λ f. omega (arith, x, digit c.before w.0.taken f) in
---     rw (w.2, w.3, x) (read_digit _ _ _ c.requires.1 l.invariant short c.loop-i-test.true))
---     (λ w.
---     let k = count c.before w.0.left in
---     let z = l.invariant.none k.0 in
---     read_count _ _ c.args.stop z.0 (w.3 ∙ z.1.1) (omega (arith, x, k.1)) (omega (arith, x, w.2, z.1.0)) (omega (arith, w.2, w.1.left)))
---     c.if-x-lt128.branch
 
 pub returns-then-stop-start-3 : goal.returns-then-stop-start-3
 returns-then-stop-start-3 c =
@@ -56,7 +35,6 @@ returns c =
     let a = read_all c.args.s.now c.args.at c.args.stop c.requires.1 c.loop-i.invariant c.loop-i-test.false in
     rw (a.0, a.1) (sym (length_of _ _ _ (omega (arith, a.0, a.1))))
 
--- the contract, as 02, E5 is stated of it (specs/Contract/LengthOctets: `Read`)
 promise : (κs : _) (a : _) (r : _) (e : _) → reads.Post κs a r e → r ≡ length_in a.0.now a.1.0 a.1.1.0
 promise κs a r e p = p
 
@@ -64,7 +42,21 @@ pub loop-i-init : goal.loop-i-init
 loop-i-init c = read_none _ _ _ c.requires.0
 
 pub overflow_sub-x : goal.overflow_sub-x
-overflow_sub-x c = (count c.before c.if-x-lt128.false-raw).1
+overflow_sub-x c = c.if-x-lt128.false.1
 
 pub overflow_sub-start : goal.overflow_sub-start
-overflow_sub-start c = (count c.before.before c.if-x-lt128.false-raw).1
+overflow_sub-start c = c.if-x-lt128.false.1
+
+pub loop-i-preserved : goal.loop-i-preserved
+loop-i-preserved c =
+    let l = c.loop-i in
+    let x = c.wide-x.ensures in
+    elim c.if-x-lt128.branch [
+      | then-x-lt128+else-stop-start w ↦ 
+        let short : l.later ≡ false → octet c.args.s.now l.i < 128 = λ f.
+        omega (arith, x, ⊎_elim (λ u. absurd (true≢false (sym u ∙ f))) (λ u. u.1) w.if-x-lt128.either) in
+        rw (w.start-is, w.n-is, x) (read_digit _ _ _ c.requires.1 l.invariant short c.loop-i-test.true)
+      | else-x-lt128+else-stop-start-2 w ↦
+        let z = l.invariant.none w.if-x-lt128.false.0 in
+        read_count _ _ c.args.stop z.0 (w.n-is ∙ z.1.1) (omega (arith, x, w.if-x-lt128.false.1)) (omega (arith, x, w.start-is, z.1.0)) (omega (arith, w.start-is, w.if-stop-start-2.false))
+    ]
