@@ -24,6 +24,7 @@ module _ {A : Type 0} where
 
   -- .. and so has what stands in it
   pub every_among : (P : A → Type 0) (l : List A) → Every P l → {x : A} → Among x l → P x
+  every_among P [] h i = elim i [ ]
   every_among P (x ∷ l) h first = h.0
   every_among P (y ∷ l) h (later i) = every_among P l h.1 i
 

@@ -1,9 +1,11 @@
-use Prim.Native.Nat.{ℕ, ◌≤◌}
+use Prim.Native.Nat.{ℕ, ◌<◌}
 use native.Mathlib.Omega.{arith}
 use mathlib.Core.Path.{◌≡◌, refl, sym, ◌∙◌}
-use mathlib.Core.Bool.{true, ◌&&◌, and-eq-true_iff}
-use lib.Dec.{eqb}
+use mathlib.Core.Bool.{false, not, and-eq-true_iff}
+use mathlib.Core.List.{List}
 use borrow.Author.Tests.{not-true, not-false, leb-true, eqb-true}
+use Rattle.der.specs.declared.Element.{Element}
+use Rattle.der.specs.Element.{element_at}
 use Rattle.der.proofs.Elements.{valid_within}
 use Rattle.der.proofs.Fits.{then_fits, then_breaks}
 use Rattle.syntax.proofs.Rows.{first_fits}
@@ -14,25 +16,9 @@ use Rattle.syntax.proofs.RowSteps.{many_end, many_broken, many_turn, row_stands,
 use Rattle.syntax.proofs.RowSteps.{field-none, field_broken, field_any, field_one, field-other, field-here}
 use Rattle.syntax.proofs.matcher.+fit_body_fit_each_fit_field_fit_member_fit_rest_fit_row.Goals as goal
 
--- what is known of the functions that each of the six calls
-
 -- where an element of a field has been read
-field-met : (t : ℕ) (w : goal.fit_field-Else-not-e t)
-    → Met w.args.s.now w.args.at w.args.stop w.element_at-e.result
-field-met t w = record { is = w.element_at-e.ensures; room = w.if-stop-at.false; valid = not-false _ w.if-not-e.false }
-
--- where the row of a member is that of one field
-member-lone : (t : ℕ) (w : goal.fit_member-Else-not-is_lone t)
-    → eqb w.row_at-row.result.kind 2 && eqb w.row_at-row.result.next 1 ≡ true
-member-lone t w = sym w.is_lone.ensures ∙ not-false _ w.if-not-is_lone.false-raw
-
--- where the kind is none of free, end and many
-rest-rule : (t : ℕ) (w : goal.fit_rest-Else-row-eq-MANY t) → 7 ≤ w.args.row.kind
-rest-rule t w = rule_kind w.args.row.kind w.requires.field w.if-row-eq-FREE.false w.if-row-eq-END.false w.if-row-eq-MANY.false
-
--- where the row is a field's
-row_field : (t : ℕ) (w : goal.fit_row-In-loop-row t) → 2 ≤ w.loop-row.row.kind
-row_field t w = field_kind w.loop-row.row.kind (sym w.is_field.ensures ∙ w.loop-row-test.true)
+field_met : {s : List ℕ} {at stop : ℕ} {e : Element} → e ≡ element_at s at stop → at < stop → not e.valid ≡ false → Met s at stop e
+field_met i r v = record { is = i; room = r; valid = not-false _ v }
 
 pub fit_body-returns-then-n-eq-FREE_ROW : goal.fit_body-returns-then-n-eq-FREE_ROW
 fit_body-returns-then-n-eq-FREE_ROW t c = sym (first_fits _ _ _ _ _ c.if-n-eq-FREE_ROW.true)
@@ -87,17 +73,17 @@ pub fit_field-returns-then-not-e : goal.fit_field-returns-then-not-e
 fit_field-returns-then-not-e t c = field_broken c.requires _ _ _ _ _ refl c.element_at-e.ensures c.if-stop-at.false (not-true _ c.if-not-e.true)
 
 pub fit_field-returns-then-row-eq-ANY_OPTIONAL : goal.fit_field-returns-then-row-eq-ANY_OPTIONAL
-fit_field-returns-then-row-eq-ANY_OPTIONAL t c = field_any c.requires _ _ _ _ _ (field-met t c.before.before) c.if-row-eq-ANY_OPTIONAL.true
+fit_field-returns-then-row-eq-ANY_OPTIONAL t c = field_any c.requires _ _ _ _ _ (field_met c.element_at-e.ensures c.if-stop-at.false c.if-not-e.false) c.if-row-eq-ANY_OPTIONAL.true
 
 pub fit_field-fit_body-requires : goal.fit_field-fit_body-requires
 fit_field-fit_body-requires t c = (omega arith, (c.requires.table_is, c.requires.inside))
 
 pub fit_field-returns-then-row-eq-ONE : goal.fit_field-returns-then-row-eq-ONE
-fit_field-returns-then-row-eq-ONE t c = field_one c.requires _ _ _ _ _ (field-met t c.before.before.before.before.before.before) c.fit_body.ensures c.by_contents.ensures c.if-row-eq-ONE.true
+fit_field-returns-then-row-eq-ONE t c = field_one c.requires _ _ _ _ _ (field_met c.element_at-e.ensures c.if-stop-at.false c.if-not-e.false) c.fit_body.ensures c.by_contents.ensures c.if-row-eq-ONE.true
 
 pub fit_field-returns-then-wide-row : goal.fit_field-returns-then-wide-row
 fit_field-returns-then-wide-row t c =
-    field-other c.requires _ _ _ _ _ (field-met t c.before.before.before.before.before.before.before.before) refl c.if-row-eq-ANY_OPTIONAL.false c.if-row-eq-ONE.false c.left_out-then-wide-row.ensures
+    field-other c.requires _ _ _ _ _ (field_met c.element_at-e.ensures c.if-stop-at.false c.if-not-e.false) refl c.if-row-eq-ANY_OPTIONAL.false c.if-row-eq-ONE.false c.left_out-then-wide-row.ensures
     (λ h. c.if-wide-row.true (c.wide.ensures ∙ h))
 
 pub fit_field-fit_body-requires-2 : goal.fit_field-fit_body-requires-2
@@ -105,7 +91,7 @@ fit_field-fit_body-requires-2 t c = (omega (arith, field_kind c.args.row.kind c.
 
 pub fit_field-returns : goal.fit_field-returns
 fit_field-returns t c =
-    field-here c.requires _ _ _ _ _ (field-met t c.before.before.before.before.before.before.before.before.before) refl c.if-row-eq-ANY_OPTIONAL.false c.if-row-eq-ONE.false c.fit_body-2.ensures c.by_contents-2.ensures
+    field-here c.requires _ _ _ _ _ (field_met c.element_at-e.ensures c.if-stop-at.false c.if-not-e.false) refl c.if-row-eq-ANY_OPTIONAL.false c.if-row-eq-ONE.false c.fit_body-2.ensures c.by_contents-2.ensures
     (sym c.wide.ensures ∙ c.if-wide-row.false)
 
 pub fit_member-row_at-row-requires : goal.fit_member-row_at-row-requires
@@ -121,12 +107,12 @@ pub fit_member-returns-then-row-wide : goal.fit_member-returns-then-row-wide
 fit_member-returns-then-row-wide t c =
     let m = c.requires.1.1 in
     sym
-    (lone_other c.row_at-row.ensures _ _ _ _ _ (member-lone t c.before.before.before) (met m.0 m.1)
+    (lone_other c.row_at-row.ensures _ _ _ _ _ (sym c.is_lone.ensures ∙ not-false _ c.if-not-is_lone.false-raw) (met m.0 m.1)
     (λ h. c.if-row-wide.true (sym h ∙ sym c.wide.ensures)))
 
 pub fit_member-fit_body-requires : goal.fit_member-fit_body-requires
 fit_member-fit_body-requires t c =
-    let k = eqb-true c.row_at-row.result.kind 2 ((and-eq-true_iff _ _).0 (member-lone t c.before.before.before)).0 in
+    let k = eqb-true c.row_at-row.result.kind 2 ((and-eq-true_iff _ _).0 (sym c.is_lone.ensures ∙ not-false _ c.if-not-is_lone.false-raw)).0 in
     (omega arith, (c.requires.0, omega arith))
 
 pub fit_member-returns : goal.fit_member-returns
@@ -134,7 +120,7 @@ fit_member-returns t c =
     let m = c.requires.1.1 in
     c.fit_body.ensures
     ∙ sym
-    (lone_here c.row_at-row.ensures _ _ _ _ _ (member-lone t c.before.before.before.before) (met m.0 m.1) (sym c.wide.ensures ∙ sym c.if-row-wide.false) (omega arith))
+    (lone_here c.row_at-row.ensures _ _ _ _ _ (sym c.is_lone.ensures ∙ not-false _ c.if-not-is_lone.false-raw) (met m.0 m.1) (sym c.wide.ensures ∙ sym c.if-row-wide.false) (omega arith))
 
 pub fit_rest-returns-then-row-eq-FREE : goal.fit_rest-returns-then-row-eq-FREE
 fit_rest-returns-then-row-eq-FREE t c = sym (row_free c.requires _ _ _ _ _ c.if-row-eq-FREE.true)
@@ -152,18 +138,18 @@ pub fit_rest-returns-then-row-eq-MANY : goal.fit_rest-returns-then-row-eq-MANY
 fit_rest-returns-then-row-eq-MANY t c = c.fit_each.ensures ∙ sym (row_many c.requires _ _ _ _ _ c.if-row-eq-MANY.true)
 
 pub fit_rest-fit_body-requires : goal.fit_rest-fit_body-requires
-fit_rest-fit_body-requires t c = (omega (arith, rest-rule t c), (c.requires.table_is, c.requires.inside))
+fit_rest-fit_body-requires t c = (omega (arith, (rule_kind c.args.row.kind c.requires.field c.if-row-eq-FREE.false c.if-row-eq-END.false c.if-row-eq-MANY.false)), (c.requires.table_is, c.requires.inside))
 
 pub fit_rest-returns-in-Breaks : goal.fit_rest-returns-in-Breaks
-fit_rest-returns-in-Breaks t c = sym (row_rule c.requires _ _ _ _ _ (rest-rule t c.before.before.before.before) ∙ then_breaks _ (sym c.fit_body.ensures ∙ c.in-Breaks.is))
+fit_rest-returns-in-Breaks t c = sym (row_rule c.requires _ _ _ _ _ (rule_kind c.args.row.kind c.requires.field c.if-row-eq-FREE.false c.if-row-eq-END.false c.if-row-eq-MANY.false) ∙ then_breaks _ (sym c.fit_body.ensures ∙ c.in-Breaks.is))
 
 pub fit_rest-overflow_sub-row : goal.fit_rest-overflow_sub-row
-fit_rest-overflow_sub-row t c = rest-rule t c.before.before.before.before
+fit_rest-overflow_sub-row t c = (rule_kind c.args.row.kind c.requires.field c.if-row-eq-FREE.false c.if-row-eq-END.false c.if-row-eq-MANY.false)
 
 pub fit_rest-returns : goal.fit_rest-returns
 fit_rest-returns t c =
     c.check_rule.ensures
-    ∙ sym (row_rule c.requires _ _ _ _ _ (rest-rule t c.before.before.before.before.before) ∙ then_fits _ (sym c.fit_body.ensures ∙ c.in_default.is))
+    ∙ sym (row_rule c.requires _ _ _ _ _ (rule_kind c.args.row.kind c.requires.field c.if-row-eq-FREE.false c.if-row-eq-END.false c.if-row-eq-MANY.false) ∙ then_fits _ (sym c.fit_body.ensures ∙ c.in_default.is))
 
 pub fit_row-row_at-row-requires : goal.fit_row-row_at-row-requires
 fit_row-row_at-row-requires t c = c.requires
@@ -174,7 +160,7 @@ fit_row-loop-row-init t c = (omega arith, (c.row_at-row.ensures, refl))
 pub fit_row-fit_field-requires : goal.fit_row-fit_field-requires
 fit_row-fit_field-requires t c =
     let r = c.loop-row.invariant.1.0 in
-    (omega (arith, row_field t c), record { table_is = c.requires.0; inside = omega arith; field = sym c.is_field.ensures ∙ c.loop-row-test.true })
+    (omega (arith, (field_kind c.loop-row.row.kind (sym c.is_field.ensures ∙ c.loop-row-test.true))), record { table_is = c.requires.0; inside = omega arith; field = sym c.is_field.ensures ∙ c.loop-row-test.true })
 
 pub fit_row-returns-in-Breaks : goal.fit_row-returns-in-Breaks
 fit_row-returns-in-Breaks t c = let v = c.loop-row.invariant.1 in sym (v.1 ∙ after_breaks v.0 _ _ _ _ _ c.fit_field.ensures c.in-Breaks.is)
@@ -183,13 +169,13 @@ pub fit_row-row_at-row-requires-in-loop-row : goal.fit_row-row_at-row-requires-i
 fit_row-row_at-row-requires-in-loop-row t c = let r = c.loop-row.invariant.1.0 in (c.requires.0, omega arith)
 
 pub fit_row-loop-row-smaller : goal.fit_row-loop-row-smaller
-fit_row-loop-row-smaller t c = let r = c.loop-row.invariant.1.0 in omega (arith, row_field t c.before.before.before.before.before)
+fit_row-loop-row-smaller t c = let r = c.loop-row.invariant.1.0 in omega (arith, (field_kind c.loop-row.row.kind (sym c.is_field.ensures ∙ c.loop-row-test.true)))
 
 pub fit_row-loop-row-preserved : goal.fit_row-loop-row-preserved
 fit_row-loop-row-preserved t c =
     let v = c.loop-row.invariant.1 in
     let r = v.0 in
-    (omega (arith, row_field t c.before.before.before.before.before), (c.row_at-row-in-loop-row.ensures, v.1 ∙ after_goes r _ _ _ _ _ c.fit_field.ensures c.in-Behind.is))
+    (omega (arith, (field_kind c.loop-row.row.kind (sym c.is_field.ensures ∙ c.loop-row-test.true))), (c.row_at-row-in-loop-row.ensures, v.1 ∙ after_goes r _ _ _ _ _ c.fit_field.ensures c.in-Behind.is))
 
 pub fit_row-fit_rest-requires : goal.fit_row-fit_rest-requires
 fit_row-fit_rest-requires t c =

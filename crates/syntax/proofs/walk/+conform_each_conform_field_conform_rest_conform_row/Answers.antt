@@ -1,7 +1,11 @@
-use Prim.Native.Nat.{ℕ, ◌≤◌}
+use Prim.Native.Nat.{ℕ, ◌<◌}
+use mathlib.Core.Bool.{false, not}
+use mathlib.Core.List.{List}
 use native.Mathlib.Omega.{arith}
-use mathlib.Core.Path.{refl, sym, ◌∙◌}
+use mathlib.Core.Path.{◌≡◌, refl, sym, ◌∙◌}
 use borrow.Author.Tests.{not-true, not-false}
+use Rattle.der.specs.declared.Element.{Element}
+use Rattle.der.specs.Element.{element_at}
 use Rattle.der.proofs.Elements.{valid_within}
 use Rattle.syntax.proofs.Match.{Met}
 use Rattle.syntax.proofs.RowSteps.{field_kind, rule_kind}
@@ -9,20 +13,9 @@ use Rattle.syntax.proofs.Whole.{entered_is, whole_stands, conforms_on, conforms-
 use Rattle.syntax.proofs.Whole.{whole_none, whole_broken, whole_any, whole_one, whole_other, whole_here, whole_done, whole_bad, whole_goes}
 use Rattle.syntax.proofs.walk.+conform_each_conform_field_conform_rest_conform_row.Goals as goal
 
--- what is known of the functions that each of the four calls
-
 -- where an element of a field has been read
-field-met : (t : ℕ) (w : goal.conform_field-Else-not-e t)
-    → Met w.args.s.now w.args.at w.args.stop w.element_at-e.result
-field-met t w = record { is = w.element_at-e.ensures; room = w.if-stop-at.false; valid = not-false _ w.if-not-e.false }
-
--- where the kind is none of free, end and many
-rest-rule : (t : ℕ) (w : goal.conform_rest-Else-row-eq-MANY t) → 7 ≤ w.args.row.kind
-rest-rule t w = rule_kind w.args.row.kind w.requires.field w.if-row-eq-FREE.false w.if-row-eq-END.false w.if-row-eq-MANY.false
-
--- where the row is a field's
-row_field : (t : ℕ) (w : goal.conform_row-In-loop-k t) → 2 ≤ w.loop-k.row.kind
-row_field t w = field_kind w.loop-k.row.kind (sym w.is_field.ensures ∙ w.loop-k-test.true)
+field_met : {s : List ℕ} {at stop : ℕ} {e : Element} → e ≡ element_at s at stop → at < stop → not e.valid ≡ false → Met s at stop e
+field_met i r v = record { is = i; room = r; valid = not-false _ v }
 
 pub conform_each-loop-i-init : goal.conform_each-loop-i-init
 conform_each-loop-i-init t c outer = refl
@@ -59,17 +52,17 @@ conform_field-returns-then-not-e t c outer = whole_broken c.requires _ _ _ _ _ o
 
 pub conform_field-returns-then-row-eq-ANY_OPTIONAL : goal.conform_field-returns-then-row-eq-ANY_OPTIONAL
 conform_field-returns-then-row-eq-ANY_OPTIONAL t c outer =
-    whole_any c.requires _ _ _ _ _ outer (field-met t c.before.before.before.before.before) c.if-row-eq-ANY_OPTIONAL.true c.check_element.ensures c.is_kept.ensures c.after_if.ensures
+    whole_any c.requires _ _ _ _ _ outer (field_met c.element_at-e.ensures c.if-stop-at.false c.if-not-e.false) c.if-row-eq-ANY_OPTIONAL.true c.check_element.ensures c.is_kept.ensures c.after_if.ensures
 
 pub conform_field-conform_row-requires : goal.conform_field-conform_row-requires
 conform_field-conform_row-requires t c = (omega arith, (c.requires.table_is, c.requires.inside))
 
 pub conform_field-returns-then-row-eq-ONE : goal.conform_field-returns-then-row-eq-ONE
-conform_field-returns-then-row-eq-ONE t c outer = whole_one c.requires _ _ _ _ _ outer (field-met t c.before.before.before.before.before.before) (c.conform_row.ensures outer) c.after_if-then-row-eq-ONE.ensures c.if-row-eq-ONE.true
+conform_field-returns-then-row-eq-ONE t c outer = whole_one c.requires _ _ _ _ _ outer (field_met c.element_at-e.ensures c.if-stop-at.false c.if-not-e.false) (c.conform_row.ensures outer) c.after_if-then-row-eq-ONE.ensures c.if-row-eq-ONE.true
 
 pub conform_field-returns-then-row-wide : goal.conform_field-returns-then-row-wide
 conform_field-returns-then-row-wide t c outer =
-    whole_other c.requires _ _ _ _ _ outer (field-met t c.before.before.before.before.before.before.before.before) refl c.if-row-eq-ANY_OPTIONAL.false c.if-row-eq-ONE.false c.left_out-then-row-wide.ensures
+    whole_other c.requires _ _ _ _ _ outer (field_met c.element_at-e.ensures c.if-stop-at.false c.if-not-e.false) refl c.if-row-eq-ANY_OPTIONAL.false c.if-row-eq-ONE.false c.left_out-then-row-wide.ensures
     (λ h. c.if-row-wide.true (sym h ∙ sym c.wide.ensures))
 
 pub conform_field-overflow_sub-depth : goal.conform_field-overflow_sub-depth
@@ -82,7 +75,7 @@ conform_field-conform_row-requires-then-is_entered t c = (omega (arith, field_ki
 
 pub conform_field-returns-then-is_entered : goal.conform_field-returns-then-is_entered
 conform_field-returns-then-is_entered t c outer =
-    let m = field-met t c.before.before.before.before.before.before.before.before.before.before.before in
+    let m = field_met c.element_at-e.ensures c.if-stop-at.false c.if-not-e.false in
     whole_here c.requires _ _ _ _ _ outer m refl c.if-row-eq-ANY_OPTIONAL.false c.if-row-eq-ONE.false (sym c.wide.ensures ∙ sym c.if-row-wide.false)
     (by_run _ _ _ _ _ m c.args.row.body (sym c.is_entered.ensures ∙ c.if-is_entered.true) (c.conform_row-then-is_entered.ensures _))
     c.after_if-then-is_entered.ensures
@@ -92,7 +85,7 @@ conform_field-conform_leaf-requires t c = let p = c.requires in (p.table_is, p.i
 
 pub conform_field-returns : goal.conform_field-returns
 conform_field-returns t c outer =
-    let m = field-met t c.before.before.before.before.before.before.before.before.before.before.before in
+    let m = field_met c.element_at-e.ensures c.if-stop-at.false c.if-not-e.false in
     whole_here c.requires _ _ _ _ _ outer m refl c.if-row-eq-ANY_OPTIONAL.false c.if-row-eq-ONE.false (sym c.wide.ensures ∙ sym c.if-row-wide.false)
     (by_leaf _ _ _ _ _ m c.conform_leaf.ensures)
     c.after_if-2.ensures
@@ -110,18 +103,18 @@ pub conform_rest-returns-then-row-eq-MANY : goal.conform_rest-returns-then-row-e
 conform_rest-returns-then-row-eq-MANY t c outer = c.conform_each.ensures outer ∙ whole_many c.requires _ _ _ _ _ outer c.if-row-eq-MANY.true
 
 pub conform_rest-conform_row-requires : goal.conform_rest-conform_row-requires
-conform_rest-conform_row-requires t c = (omega (arith, rest-rule t c), (c.requires.table_is, c.requires.inside))
+conform_rest-conform_row-requires t c = (omega (arith, rule_kind c.args.row.kind c.requires.field c.if-row-eq-FREE.false c.if-row-eq-END.false c.if-row-eq-MANY.false), (c.requires.table_is, c.requires.inside))
 
 pub conform_rest-returns-then-not-conform_row : goal.conform_rest-returns-then-not-conform_row
-conform_rest-returns-then-not-conform_row t c outer = whole_rule c.requires _ _ _ _ _ outer (rest-rule t c.before.before) (sym (c.conform_row.ensures outer) ∙ not-true _ c.if-not-conform_row.true-raw)
+conform_rest-returns-then-not-conform_row t c outer = whole_rule c.requires _ _ _ _ _ outer (rule_kind c.args.row.kind c.requires.field c.if-row-eq-FREE.false c.if-row-eq-END.false c.if-row-eq-MANY.false) (sym (c.conform_row.ensures outer) ∙ not-true _ c.if-not-conform_row.true-raw)
 
 pub conform_rest-overflow_sub-row : goal.conform_rest-overflow_sub-row
-conform_rest-overflow_sub-row t c = rest-rule t c.before.before.before
+conform_rest-overflow_sub-row t c = rule_kind c.args.row.kind c.requires.field c.if-row-eq-FREE.false c.if-row-eq-END.false c.if-row-eq-MANY.false
 
 pub conform_rest-returns : goal.conform_rest-returns
 conform_rest-returns t c outer =
     (rw c.slice.ensures at c.keeps.ensures)
-    ∙ whole_rule c.requires _ _ _ _ _ outer (rest-rule t c.before.before.before.before.before) (sym (c.conform_row.ensures outer) ∙ not-false _ c.if-not-conform_row.false-raw)
+    ∙ whole_rule c.requires _ _ _ _ _ outer (rule_kind c.args.row.kind c.requires.field c.if-row-eq-FREE.false c.if-row-eq-END.false c.if-row-eq-MANY.false) (sym (c.conform_row.ensures outer) ∙ not-false _ c.if-not-conform_row.false-raw)
 
 pub conform_row-row_at-row-requires : goal.conform_row-row_at-row-requires
 conform_row-row_at-row-requires t c = c.requires
@@ -132,7 +125,7 @@ conform_row-loop-k-init t c = (omega arith, (c.row_at-row.ensures, λ outer. ref
 pub conform_row-conform_field-requires : goal.conform_row-conform_field-requires
 conform_row-conform_field-requires t c =
     let r = c.loop-k.invariant.1.0 in
-    (omega (arith, row_field t c), record { table_is = c.requires.0; inside = omega arith; field = sym c.is_field.ensures ∙ c.loop-k-test.true })
+    (omega (arith, field_kind c.loop-k.row.kind (sym c.is_field.ensures ∙ c.loop-k-test.true)), record { table_is = c.requires.0; inside = omega arith; field = sym c.is_field.ensures ∙ c.loop-k-test.true })
 
 pub conform_row-returns-in_default : goal.conform_row-returns-in_default
 conform_row-returns-in_default t c outer =
@@ -143,13 +136,13 @@ pub conform_row-row_at-row-requires-in-loop-k : goal.conform_row-row_at-row-requ
 conform_row-row_at-row-requires-in-loop-k t c = let r = c.loop-k.invariant.1.0 in (c.requires.0, omega arith)
 
 pub conform_row-loop-k-smaller : goal.conform_row-loop-k-smaller
-conform_row-loop-k-smaller t c = let r = c.loop-k.invariant.1.0 in omega (arith, row_field t c.before.before.before.before.before)
+conform_row-loop-k-smaller t c = let r = c.loop-k.invariant.1.0 in omega (arith, field_kind c.loop-k.row.kind (sym c.is_field.ensures ∙ c.loop-k-test.true))
 
 pub conform_row-loop-k-preserved : goal.conform_row-loop-k-preserved
 conform_row-loop-k-preserved t c =
     let v = c.loop-k.invariant.1 in
     let r = v.0 in (
-      omega (arith, row_field t c.before.before.before.before.before),
+      omega (arith, field_kind c.loop-k.row.kind (sym c.is_field.ensures ∙ c.loop-k-test.true)),
       (c.row_at-row-in-loop-k.ensures, λ outer. v.1 outer ∙ conforms_on r _ _ _ _ _ outer (c.conform_field.ensures outer) c.in-Behind.is),
     )
 

@@ -1,5 +1,5 @@
 -- `syntax::walk::conform_row` and the three that it calls in a cycle meet their contracts, as those of `syntax::matcher::fit_row` do. Assumes nothing.
-use Prim.Native.Nat.{ℕ, ◌-◌, ◌≤◌}
+use Prim.Native.Nat.{ℕ, ◌+◌, ◌*◌, ◌-◌, ◌≤◌}
 use mathlib.Core.Path.{◌≡◌}
 use Rattle.syntax.specs.Grammar.{many}
 use Rattle.syntax.specs.Contract.Rows.{grammar_of, RowIs}
