@@ -1,0 +1,20 @@
+use borrow.Author.Rules.{rules}
+use mathlib.Core.Path.{refl}
+use Rattle.der.proofs.Runs.{run_less}
+use Rattle.rights.proofs.Engine.{pair-here, pair-later, pair_end}
+use Rattle.rights.proofs.decision.pair_outside.Goals as goal
+
+pub loop-i-init : goal.loop-i-init
+loop-i-init c = refl
+
+pub returns-in-Outside : goal.returns-in-Outside
+returns-in-Outside c = search (pair-here, rules)
+
+pub loop-i-smaller : goal.loop-i-smaller
+loop-i-smaller c = search (run_less, rules)
+
+pub loop-i-preserved : goal.loop-i-preserved
+loop-i-preserved c = search (pair-later, rules)
+
+pub returns : goal.returns
+returns c = search (pair_end, rules)
