@@ -1,7 +1,7 @@
 -- 01, The store image: reading and writing it. Status 201 is "decode gives nothing".
 use Rattle.std.specs.Prelude.{ℕ, zero, suc, ◌+◌, ◌-◌, Bool, true, false, ◌&&◌, ◌||◌, length, take, drop, leb, eqb}
 use mathlib.Core.List.{List, [], ◌∷◌, ◌++◌, map, flat_map}
-use Rattle.std.proofs.Math.Option.{Option, none, some, Option·elim}
+use Rattle.std.proofs.Math.Option.{Option, none, some, Option-elim}
 use Rattle.octets.specs.Limits.{max_anchors, max_communities, max_name_octets, max_anchor_octets, max_number}
 use Rattle.octets.specs.Lists.{all_of}
 use Rattle.octets.specs.Octets.{distinct}
@@ -156,7 +156,7 @@ unfoldable pub name_ok : List ℕ → Bool
 name_ok o = leb 1 (length o) && leb (length o) max_name_octets
 
 unfoldable pub anchor_ok : Anchor → Bool
-anchor_ok a = Option·elim a.number true (λ n. leb n max_number) && storable a.info
+anchor_ok a = Option-elim a.number true (λ n. leb n max_number) && storable a.info
 
 unfoldable pub well_formed : Store → Bool
 well_formed σ =
