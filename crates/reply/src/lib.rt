@@ -41,16 +41,12 @@ pub enum Part {
 }
 
 impl<'a> Writer<'a> {
-    fn append<'b>(self, part: Part, s: &'b [u8]) -> Writer<'a>
-        requires { self.at + length (part_of part s.now) ≤ length self.buf.now }
-        ensures { result ≡ wrote self.entry (part_of part s.now) }
+    fn append(&mut self, part: Part, s: &[u8])
+        requires { self.old.at + length (part_of part s.now) ≤ length self.old.buf.now }
+        ensures same_reference { self.new.buf.ghost_name ≡ self.old.buf.ghost_name }
+        ensures written { self.new ≡ wrote self.old (part_of part s.now) }
     {
-        let at = self.at;
-        let next = parts::put_part(&mut *self.buf, at, part, s);
-        Writer {
-            buf: self.buf,
-            at: next,
-        }
+        self.at = parts::put_part(&mut *self.buf, self.at, part, s);
     }
 }
 
@@ -73,13 +69,14 @@ fn put_parts<'a, 'b>(
         × (buf.new
         ≡ placed buf.old 0 (five_parts a s.now b t.now c u.now d v.now e x.now)) }
 {
-    let w = Writer { buf: buf, at: 0 };
-    let w = w.append(a, s);
-    let w = w.append(b, t);
-    let w = w.append(c, u);
-    let w = w.append(d, v);
-    let w = w.append(e, x);
-    w.at
+    let mut w = Writer { buf: buf, at: 0 };
+    w.append(a, s);
+    w.append(b, t);
+    w.append(c, u);
+    w.append(d, v);
+    w.append(e, x);
+    let Writer { buf, at } = w;
+    at
 }
 
 // A reply: what stands first in it, and the header of an element of m octets, with `first` and three parts after it, of which `after` octets stand after that element.

@@ -10,7 +10,6 @@ use Rattle.der.proofs.read.length_at.Reads as reads
 use Rattle.der.proofs.read.length_at.Goals.{then-x-lt128+else-stop-start, else-x-lt128+else-stop-start-2}
 use Rattle.der.proofs.read.length_at.Goals as goal
 
-
 pub returns-then-stop-start : goal.returns-then-stop-start
 returns-then-stop-start c =
     sym (length_beyond _ _ _ (read_beyond _ _ _ c.requires.1 c.loop-i.invariant c.loop-i-test.true c.if-stop-start.true))
@@ -23,7 +22,6 @@ returns-then-stop-start-2 c =
     let z = c.loop-i.invariant.none c.if-x-lt128.false.0 in
     let x = ap (octet c.args.s.now) (sym z.0) ∙ sym c.wide-x.ensures in
     sym (length_beyond c.args.s.now c.args.at c.args.stop (omega (arith, x, z.1.0)))
-
 
 pub returns-then-stop-start-3 : goal.returns-then-stop-start-3
 returns-then-stop-start-3 c =
@@ -52,11 +50,11 @@ loop-i-preserved c =
     let l = c.loop-i in
     let x = c.wide-x.ensures in
     elim c.if-x-lt128.branch [
-      | then-x-lt128+else-stop-start w ↦ 
-        let short : l.later ≡ false → octet c.args.s.now l.i < 128 = λ f.
-        omega (arith, x, ⊎_elim (λ u. absurd (true≢false (sym u ∙ f))) (λ u. u.1) w.if-x-lt128.either) in
-        rw (w.start-is, w.n-is, x) (read_digit _ _ _ c.requires.1 l.invariant short c.loop-i-test.true)
+      | then-x-lt128+else-stop-start w ↦
+          let short : l.later ≡ false → octet c.args.s.now l.i < 128 = λ f.
+          omega (arith, x, ⊎_elim (λ u. absurd (true≢false (sym u ∙ f))) (λ u. u.1) w.if-x-lt128.either) in
+          rw (w.start-is, w.n-is, x) (read_digit _ _ _ c.requires.1 l.invariant short c.loop-i-test.true)
       | else-x-lt128+else-stop-start-2 w ↦
-        let z = l.invariant.none w.if-x-lt128.false.0 in
-        read_count _ _ c.args.stop z.0 (w.n-is ∙ z.1.1) (omega (arith, x, w.if-x-lt128.false.1)) (omega (arith, x, w.start-is, z.1.0)) (omega (arith, w.start-is, w.if-stop-start-2.false))
+          let z = l.invariant.none w.if-x-lt128.false.0 in
+          read_count _ _ c.args.stop z.0 (w.n-is ∙ z.1.1) (omega (arith, x, w.if-x-lt128.false.1)) (omega (arith, x, w.start-is, z.1.0)) (omega (arith, w.start-is, w.if-stop-start-2.false))
     ]
