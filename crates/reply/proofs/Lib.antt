@@ -1,3 +1,4 @@
+pub mod Chain
 pub mod Elements
 pub mod Codes
 pub mod Members

@@ -75,8 +75,7 @@ fn put_parts<'a, 'b>(
     w.append(c, u);
     w.append(d, v);
     w.append(e, x);
-    let Writer { buf, at } = w;
-    at
+    w.at
 }
 
 // A reply: what stands first in it, and the header of an element of m octets, with `first` and three parts after it, of which `after` octets stand after that element.

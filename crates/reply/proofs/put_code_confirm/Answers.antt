@@ -8,7 +8,7 @@ use Rattle.reply.proofs.put_code_confirm.Goals as goal
 
 pub put_reply-requires : goal.put_reply-requires
 unfolding part_of
-put_reply-requires c = let a = c.before.args in (refl, omega (arith, ap length (code_is a.msgref.now a.tag a.code)))
+put_reply-requires c = let a = c.args in (refl, omega (arith, ap length (code_is a.msgref.now a.tag a.code)))
 
 pub returns : goal.returns
-returns c = let a = c.before.args in written_as a.buf.now (code_is a.msgref.now a.tag a.code) c.put_reply.ensures
+returns c = let a = c.args in written_as a.buf.now (code_is a.msgref.now a.tag a.code) c.put_reply.ensures

@@ -10,10 +10,10 @@ use Rattle.reply.proofs.put_update_confirm.Goals as goal
 
 pub overflow_mul-codes : goal.overflow_mul-codes
 overflow_mul-codes c =
-    let a = c.before.args in record { fits = omega (arith, update_size a.msgref.now (map status_numbered a.codes.now) (length-map a.codes.now status_numbered)) }
+    let a = c.args in record { fits = omega (arith, update_size a.msgref.now (map status_numbered a.codes.now) (length-map a.codes.now status_numbered)) }
 
 pub put_reply-requires : goal.put_reply-requires
-put_reply-requires c = let b = c.before in let a = b.args in (update_rest a.msgref.now a.codes.now, omega (arith, ap length (update_is a.msgref.now a.codes.now)))
+put_reply-requires c = let a = c.args in (update_rest a.msgref.now a.codes.now, omega (arith, ap length (update_is a.msgref.now a.codes.now)))
 
 pub returns : goal.returns
-returns c = let b = c.before in let a = b.args in written_as a.buf.now (update_is a.msgref.now a.codes.now) c.put_reply.ensures
+returns c = let a = c.args in written_as a.buf.now (update_is a.msgref.now a.codes.now) c.put_reply.ensures
