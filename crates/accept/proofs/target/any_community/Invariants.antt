@@ -1,0 +1,15 @@
+-- `accept::target::any_community` meets its contract. The loop's invariant: the search from here finds what the whole search finds. Assumes nothing.
+use mathlib.Core.Path.{◌≡◌}
+use Prim.Native.Nat.{◌-◌}
+use Rattle.octets.specs.Lists.{any_of}
+use Rattle.der.specs.Element.{elements}
+use Rattle.octets.specs.Octets.{member}
+use Rattle.der.specs.Element.{contents}
+use Rattle.store.specs.Contract.Parts.{names_from}
+use Rattle.accept.proofs.target.any_community.Given as goal
+
+abbrev pub invariant-loop-at : goal.invariant-loop-at
+invariant-loop-at l = any_of (λ c. member (contents l.target c) (names_from l.n l.names)) (elements l.target l.at l.stop) ≡ any_of (λ c. member (contents l.target c) (names_from l.n l.names)) (elements l.target l.initial.at l.stop)
+
+abbrev pub decreases-loop-at : goal.decreases-loop-at
+decreases-loop-at l = l.stop - l.at
