@@ -59,6 +59,7 @@ fn is_lone(kind: usize, next: usize) -> bool
 
 // As fit_row, with no recursive call where the row is free, or a rule alone: most bodies are.
 #[cycle(fit_body_fit_each_fit_field_fit_member_fit_rest_fit_row)]
+#[tactic(auto, using(crate::proofs::Rows::first_fits))]
 pub fn fit_body(
     table: &table::Table,
     given: &[u8],

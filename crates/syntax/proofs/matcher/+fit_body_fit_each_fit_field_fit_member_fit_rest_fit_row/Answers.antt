@@ -20,9 +20,6 @@ use Rattle.syntax.proofs.matcher.+fit_body_fit_each_fit_field_fit_member_fit_res
 field_met : {s : List ℕ} {at stop : ℕ} {e : Element} → e ≡ element_at s at stop → at < stop → not e.valid ≡ false → Met s at stop e
 field_met i r v = record { is = i; room = r; valid = not-false _ v }
 
-pub fit_body-returns-then-n-eq-FREE_ROW : goal.fit_body-returns-then-n-eq-FREE_ROW
-fit_body-returns-then-n-eq-FREE_ROW t c = sym (first_fits _ _ _ _ _ c.if-n-eq-FREE_ROW.true)
-
 pub fit_body-row_at-row-requires : goal.fit_body-row_at-row-requires
 fit_body-row_at-row-requires t c = c.requires
 
