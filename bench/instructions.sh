@@ -21,7 +21,7 @@ cd "$top"
 python3 bench/cases.py "$dir/cases"
 if [ $n -eq 0 ]; then
     need_kit
-    proved "$dir/log" staticlib tamp
+    library "$dir/log"
     n=1
     cp target/staticlib/libtamp.a "$dir/1.a"
 fi

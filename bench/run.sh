@@ -11,7 +11,7 @@ cd "$(dirname "$0")/.."
 dir=$(mktemp -d)
 trap 'rm -rf "$dir"' EXIT
 python3 bench/cases.py "$dir/cases"
-proved "$dir/log" staticlib tamp
+library "$dir/log"
 built target/staticlib/libtamp.a "$dir/bench"
 echo "lent buffers cleared once, before the runs"
 for case in "$dir"/cases/*; do

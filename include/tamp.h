@@ -1,6 +1,6 @@
 /* The trust anchor store of a box, one call: from message, store image and verdict to reply and next store
    (RFC 5934 and RFC 6010 in the profile of document 01; README.md, docs/DECISIONS.md).
-   `rt staticlib tamp` proves the library and writes target/staticlib/libtamp.a, for x86-64. */
+   tools/library.sh proves the library and writes target/staticlib/libtamp.a, for x86-64. */
 #ifndef TAMP_H
 #define TAMP_H
 

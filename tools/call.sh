@@ -34,7 +34,8 @@ case $# in
 *) die 'usage: tools/call.sh [MESSAGE IMAGE VERDICT]' ;;
 esac
 cd "$top"
-proved "$dir/log" check tamp_call tamp_list
-target/bin/tamp_call < "$dir/calls" | head -4 | tee "$dir/answer"
+program "$dir/log" tamp_call
+program "$dir/log" tamp_list
+crates/tamp_call/out/tamp_call < "$dir/calls" | head -4 | tee "$dir/answer"
 if grep -q '^bad call\|^status 20[1-5]$' "$dir/answer"; then exit 1; fi
-sed -n 's/^store //p' "$dir/answer" | xxd -r -p | target/bin/tamp_list
+sed -n 's/^store //p' "$dir/answer" | xxd -r -p | crates/tamp_list/out/tamp_list

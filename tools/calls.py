@@ -6,7 +6,7 @@
                                                   status and house refusal, then all of OUTSIDE (tools/outside_calls.py makes them)
 
 A file has one JSON object a line: name; message, image and verdict in hex; reply_room and next_room; status and offset, reply in hex, and
-next in hex or same_next. PROGRAM is target/bin/tamp_call, as `rt check tamp_call` leaves it. A call that the program does not take (over its limits)
+next in hex or same_next. PROGRAM is crates/tamp_call/out/tamp_call, as `rt run` leaves it. A call that the program does not take (over its limits)
 is left out. Exit status 1 where a call differs, 2 for a bad file.
 """
 import argparse, sys

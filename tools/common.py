@@ -34,10 +34,10 @@ def need(package, *commands):
 
 
 def program(name, given=None):
-    """a built program: the one given, else that of target/bin"""
-    file = given or path('target', 'bin', name)
+    """a built program: the one given, else that of its crate's out"""
+    file = given or path('crates', name, 'out', name)
     if not os.access(file, os.X_OK) or os.path.isdir(file):
-        die(f'{file}: no such program' + ('' if given else f'; `rt check {name}` makes it'))
+        die(f'{file}: no such program' + ('' if given else f'; `rt run < /dev/null` in crates/{name} makes it'))
     return os.path.abspath(file)
 
 

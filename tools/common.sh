@@ -31,11 +31,24 @@ need_hex() {
     [ $((${#1} % 2)) -eq 0 ] || die "'$1': half an octet at the end"
 }
 
-# proved LOG WORDS..: rt WORDS.. at the top of the repository. All that it prints goes to LOG, the line on each crate to standard error too.
+# proved LOG CRATE COMMAND: rt COMMAND in the crate's folder, which proves the crates below it too, with no input. All that it prints goes to LOG,
+# a line on each crate to standard error too.
 proved() {
-    log=$1
-    shift
-    say "rt $*: a line for each crate; minutes from nothing, seconds where nothing has changed"
-    { rt "$@" 2>&1 && echo ok > "$log.ok"; } | tee "$log" | grep --line-buffered '^rt: ' >&2 || true
-    [ -e "$log.ok" ] || { cat "$log" >&2; say "rt $* failed"; exit 1; }
+    log=$1 crate=$2 command=$3
+    rm -f "$log.ok"
+    say "rt $command in crates/$crate: a line for each crate; minutes from nothing, seconds where nothing has changed"
+    { (cd "crates/$crate" && rt "$command") < /dev/null 2>&1 && echo ok > "$log.ok"; } | tee "$log" | grep --line-buffered '^crate ' >&2 || true
+    [ -e "$log.ok" ] || { cat "$log" >&2; say "rt $command in crates/$crate failed"; exit 1; }
+}
+
+# program LOG NAME: proves a program, and leaves it as crates/NAME/out/NAME.
+program() {
+    proved "$1" "$2" run
+}
+
+# library LOG: proves the library for C, and writes target/staticlib/libtamp.a.
+library() {
+    proved "$1" tamp_c lib
+    mkdir -p target/staticlib
+    cp crates/tamp_c/out/libtamp_c.a target/staticlib/libtamp.a
 }

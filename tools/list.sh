@@ -10,6 +10,6 @@ dir=$(mktemp -d)
 trap 'rm -rf "$dir"' EXIT
 cat -- "${1-$top/crates/tamp_list/stdin}" > "$dir/image"
 cd "$top"
-proved "$dir/log" check tamp_list
-target/bin/tamp_list < "$dir/image" | tee "$dir/listing"
+program "$dir/log" tamp_list
+crates/tamp_list/out/tamp_list < "$dir/image" | tee "$dir/listing"
 if grep -q '^refused' "$dir/listing"; then exit 1; fi

@@ -3,7 +3,7 @@
 
 A file has one JSON object a line: name, message in hex, status, offset, accepted. Where the expected status is of a row up to 127 in the
 order of 01's table, the program must write that status and offset; for later rows and every accepted message the message passes. Calls with a
-house refusal say nothing about the message and are left out. PROGRAM is target/bin/tamp_read, as `rt check tamp_read` leaves it.
+house refusal say nothing about the message and are left out. PROGRAM is crates/tamp_read/out/tamp_read, as `rt run` leaves it.
 Exit status 1 where a message differs, 2 for a bad file.
 """
 import sys

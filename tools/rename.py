@@ -1,5 +1,6 @@
 #!/usr/bin/env python3
 """tools/rename.py [DIR..]: writes the new names of tools/renames.txt for the old ones, in the folders given (crates/ of this repository by default).
+It is for the older Rattle's spelling, and is kept as a record of that move: the names of the table have since been respelled (docs/PORT.md).
 
 A line of the table is KIND SCOPE OLD NEW. SCOPE is * or crates with commas between, by the folder crates/NAME/ that a file stands in; of def it is crate.Module.
   def    what crate.Module (of specs/ or proofs/) calls OLD: there, and in the files that import it

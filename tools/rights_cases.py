@@ -6,7 +6,7 @@
     tools/rights_cases.py FILE [PROGRAM]     runs the cases of a file through PROGRAM and compares
 
 A file has one JSON object a line: name, signer, new (hex), signer_is_apex, within; or name, anchor, type (hex), role, pairs, is_apex,
-authorises. PROGRAM is target/bin/rights_cases, as `rt check rights_cases` leaves it. Exit status 1 where a case differs, 2 for a bad file.
+authorises. PROGRAM is crates/rights_cases/out/rights_cases, as `rt run` leaves it. Exit status 1 where a case differs, 2 for a bad file.
 
 The input of the program: a case is one octet W or A, one octet that says whether the (signing) anchor is the apex, and for
     W   signer and new anchor, each a 2-octet length and a TrustAnchorInfo; answered 'within' or 'not'

@@ -1,7 +1,7 @@
 #!/usr/bin/env python3
 """run_listings.py LISTINGS [PROGRAM]: runs the images of a file of listings through tamp_list and compares what it prints.
 
-A file has one JSON object a line: name, image in hex, text. PROGRAM is target/bin/tamp_list, as `rt check tamp_list` leaves it.
+A file has one JSON object a line: name, image in hex, text. PROGRAM is crates/tamp_list/out/tamp_list, as `rt run` leaves it.
 Inputs over the largest image are added: they are refused too. Exit status 1 where a listing differs, 2 for a bad file.
 """
 import sys

@@ -1,17 +1,17 @@
 #!/usr/bin/env python3
-"""table.py: makes the matcher's table from the grammar. Run it after a change of specs/Asn.antt, Types.antt (syntaxOf) or Forms.antt of
-crates/syntax.
+"""table.py: makes the matcher's table from the grammar. Run it after a change of specs/Asn.antt, Types.antt (syntax_of) or Contract/Forms.antt
+of crates/syntax, and then `rt fmt` in crates/syntax.
 
-It reads those files and writes src/table.rt (the constant array), specs/contract/Table.antt (the same rows as data) and proofs/Ties.antt (the rows
+It reads those files and writes src/table.rt (the constant array), specs/Contract/Table.antt (the same rows as data) and proofs/Ties.antt (the rows
 of the named types and of the forms stand for them). A row is four octets: kind, tag or argument, body's row, next row; it names only
-rows above it, and equal rows are one. What a kind stands for is said by specs/contract/Rows.antt.
+rows above it, and equal rows are one. What a kind stands for is said by specs/Contract/Rows.antt.
 """
 import re
 import common
 
 CRATE = common.path('crates', 'syntax', '')
-KINDS = ['free', 'end', 'optional', 'required', 'one', 'anyOptional', 'many']
-RULES = ['notEmpty', 'sizeTo', 'empty', 'equals', 'equals given', 'integerBut', 'seqNumber']
+KINDS = ['free', 'end', 'optional', 'required', 'one', 'any_optional', 'many']
+RULES = ['not_empty', 'size_to', 'empty', 'equals', 'equals given', 'integer_but', 'seq_number']
 
 
 # -- reading
@@ -90,7 +90,7 @@ class Grammar:
             return self.tree(inner, outer)
         if head == 'free':
             return Node('free')
-        if head in ('end', 'noOther'):
+        if head in ('end', 'no_other'):
             return Node('end')
         if head in ('optional', 'required', 'alternative'):
             return Node('required' if head == 'required' else 'optional', self.number(args[0], env), self.tree(args[1], env), self.tree(args[2], env))
@@ -102,8 +102,8 @@ class Grammar:
                 # a CHOICE with one alternative
                 return Node('required', body.arg, body.body, following)
             return Node('one', 0, body, following)
-        if head == 'anyOptional':
-            return Node('anyOptional', 0, None, self.tree(args[0], env))
+        if head == 'any_optional':
+            return Node('any_optional', 0, None, self.tree(args[0], env))
         if head == 'many':
             return Node('many', 0, self.tree(args[0], env))
         if head == 'obeys':
@@ -142,7 +142,7 @@ class Table:
             if known or not type:
                 type, fields, i = node.type, known or [], 0
         spine, n = node, 0
-        while spine and spine.kind in ('optional', 'required', 'one', 'anyOptional'):
+        while spine and spine.kind in ('optional', 'required', 'one', 'any_optional'):
             spine, n = spine.next, n + 1
         if fields and i == 0 and n != len(fields):
             # the element around the fields
@@ -164,8 +164,9 @@ class Table:
         return n
 
     def comment(self, n):
-        """the kind of a row, and the fields that it stands in; the first two rows stand in most"""
+        """the kind of a row in one word, and the fields that it stands in; the first two rows stand in most"""
         kind, labels = self.labels[n]
+        kind = re.sub('_(.)', lambda found: found.group(1).upper(), kind)
         return f'{n}: {kind}' + (' in ' + ', '.join(labels) if n > 1 else '')
 
 
@@ -176,7 +177,7 @@ def shown(row):
 def main():
     single, _ = definitions(CRATE + 'specs/Asn.antt')
     _, messages = definitions(CRATE + 'specs/Types.antt')
-    _, forms = definitions(CRATE + 'specs/contract/Forms.antt')
+    _, forms = definitions(CRATE + 'specs/Contract/Forms.antt')
     names = fields(CRATE + 'specs/Asn.antt')
     grammar, table, ties = Grammar(single), Table(names), []
 
@@ -186,21 +187,20 @@ def main():
     for name, (public, parameters, body) in single.items():
         if public and not parameters and name[0].isupper():
             ties.append((name, row(name)))
-    message_rows = [(p, row(body)) for p, body in messages['syntaxOf']]
-    form_rows = [(p, row(body, '' if isinstance(body, str) else p.split('.')[1])) for p, body in forms['formSyntax'] if p != '(form.Message kind)']
-    attribute_rows = [(p.split()[0], row(body, p.split()[0].split('.')[1] + ' attribute')) for p, body in forms['attributeSyntax']]
+    message_rows = [(p, row(body)) for p, body in messages['syntax_of']]
+    form_rows = [(p, row(body, '' if isinstance(body, str) else p.split('.')[1])) for p, body in forms['form_syntax'] if p != '(form.Message kind)']
+    attribute_rows = [(p.split()[0], row(body, p.split()[0].split('.')[1] + ' attribute')) for p, body in forms['attribute_syntax']]
 
     count = len(table.rows)
-    note = 'Made by tools/table.py from specs/Asn.antt and specs/contract/Forms.antt: change those, not this file.'
+    note = 'Made by tools/table.py from specs/Asn.antt and specs/Contract/Forms.antt: change those, not this file.'
 
     def constant(name):
         return re.sub(r'(?<=[a-z])(?=[A-Z])|(?<=[A-Z])(?=[A-Z][a-z])', '_', name.split('.')[-1]).upper()
 
-    rt = [f'// {note}', "// A row is four octets: kind, tag or argument, body's row, next row. specs/contract/Rows.antt says what a row stands for.",
+    rt = [f'// {note}', "// A row is four octets: kind, tag or argument, body's row, next row. specs/Contract/Rows.antt says what a row stands for.",
           f'pub type Table = [u8; {4 * count}];', '', 'pub const ROWS: Table = [']
     for n, row in enumerate(table.rows):
-        rt.append(f'    // {table.comment(n)}')
-        rt += [f'    {x},' for x in shown(row)]
+        rt += [f'    // {table.comment(n)}', '    ' + ', '.join(shown(row)) + ',']
     rt += ['];', '', '// The row of each form.']
     for name, n in [(constant(p), n) for p, n in form_rows + message_rows] + [(constant(p) + '_ATTRIBUTE', n) for p, n in attribute_rows]:
         rt += [f'pub const {name}: usize = {n};', '']
@@ -208,45 +208,45 @@ def main():
     write('src/table.rt', rt)
 
     variants = '{' + ', '.join(p for p, _ in message_rows) + '}'
-    declared = ['use Rattle·syntax·specs.specs.declared.TampType.{TampType}',
-                f'use Rattle·syntax·specs.specs.declared.TampType.the-variants.{variants}',
-                'use Rattle·syntax·specs.specs.declared.Form.{Form}',
-                'use Rattle·syntax·specs.specs.declared.Form.the-variants as form',
-                'use Rattle·syntax·specs.specs.declared.AttributeForm.{AttributeForm}',
-                'use Rattle·syntax·specs.specs.declared.AttributeForm.the-variants as attribute']
+    declared = ['use Rattle.syntax.specs.declared.TampType.{TampType}',
+                f'use Rattle.syntax.specs.declared.TampType.TheVariants.{variants}',
+                'use Rattle.syntax.specs.declared.Form.{Form}',
+                'use Rattle.syntax.specs.declared.Form.TheVariants as form',
+                'use Rattle.syntax.specs.declared.AttributeForm.{AttributeForm}',
+                'use Rattle.syntax.specs.declared.AttributeForm.TheVariants as attribute']
     spec = [f'-- {note}', '-- The rows of src/table.rt as data, and the row of each form.',
-            'use Prim.Native.Nat.{ℕ}', 'use mathlib.Core.List.{List, [], _∷_}'] + declared
+            'use Rattle.std.specs.Prelude.{ℕ, List, [], ◌∷◌}'] + declared
     spec += ['', 'abbrev pub count : ℕ', f'count = {count}', '', 'unfoldable pub rows : List ℕ', 'rows =']
     for n, row in enumerate(table.rows):
         spec.append('    ' + ('∷ ' if n else '') + ' ∷ '.join(shown(row)) + f'  -- {table.comment(n)}')
-    spec += ['    ∷ []', '', 'abbrev pub messageRow : TampType → ℕ']
-    spec += [f'messageRow {p} = {n}' for p, n in message_rows]
-    spec += ['', 'abbrev pub formRow : Form → ℕ']
-    spec += [f'formRow {p} = {n}' for p, n in form_rows] + ['formRow (form.Message kind) = messageRow kind']
-    spec += ['', 'abbrev pub attributeRow : AttributeForm → ℕ']
-    spec += [f'attributeRow {p} = {n}' for p, n in attribute_rows]
-    write('specs/contract/Table.antt', spec)
+    spec += ['    ∷ []', '', 'abbrev pub message_row : TampType → ℕ']
+    spec += [f'message_row {p} = {n}' for p, n in message_rows]
+    spec += ['', 'abbrev pub form_row : Form → ℕ']
+    spec += [f'form_row {p} = {n}' for p, n in form_rows] + ['form_row (form.Message kind) = message_row kind']
+    spec += ['', 'abbrev pub attribute_row : AttributeForm → ℕ']
+    spec += [f'attribute_row {p} = {n}' for p, n in attribute_rows]
+    write('specs/Contract/Table.antt', spec)
 
     # the one type whose rule takes the caller's octets is a form, and tied there
     ties = [(name, n) for name, n in ties if name != 'ContentInfoSignedData']
     names = [name for name, _ in ties]
     proof = [f'-- {note}', '-- Each named type, and each form, is what its row stands for. A stale table fails here.',
-             'use Prim.Native.Nat.{ℕ}', 'use mathlib.Core.List.{List, [], _∷_, map}', 'use mathlib.Core.Path.{_≡_, refl}'] + declared
-    proof += ['use Rattle·syntax·specs.specs.Asn.{' + ', '.join(part) + '}' for part in chunks(['id-signedData'] + names, 6)]
-    proof += ['use Rattle·syntax·specs.specs.Types.{syntaxOf}', 'use Rattle·syntax·specs.specs.contract.Forms.{formSyntax, attributeSyntax}',
-              'use Rattle·syntax·specs.specs.contract.Table.{rows, messageRow, formRow, attributeRow}',
-              'use Rattle·syntax·specs.specs.contract.Rows.{ruleOf, rowSyntax, grown, grammarOf}', '']
-    opened = 'unfolding rows ruleOf rowSyntax grown'
-    proof += ['types-are : (o : List ℕ) → map (grammarOf o)', '    (' + ' ∷ '.join(str(n) for _, n in ties) + ' ∷ [])', '    ≡']
+             'use Prim.Native.Nat.{ℕ}', 'use mathlib.Core.List.{List, [], ◌∷◌, map}', 'use mathlib.Core.Path.{◌≡◌, refl}'] + declared
+    proof += ['use Rattle.syntax.specs.Asn.{' + ', '.join(part) + '}' for part in chunks(['id_signed_data'] + names, 6)]
+    proof += ['use Rattle.syntax.specs.Types.{syntax_of}', 'use Rattle.syntax.specs.Contract.Forms.{form_syntax, attribute_syntax}',
+              'use Rattle.syntax.specs.Contract.Table.{rows, message_row, form_row, attribute_row}',
+              'use Rattle.syntax.specs.Contract.Rows.{rule_of, row_syntax, grown, grammar_of}', '']
+    opened = 'unfolding rows rule_of row_syntax grown'
+    proof += ['types_are : (o : List ℕ) → map (grammar_of o)', '    (' + ' ∷ '.join(str(n) for _, n in ties) + ' ∷ [])', '    ≡']
     proof += ['    ' + ('∷ ' if i else '') + ' ∷ '.join(part) for i, part in enumerate(chunks(names, 6))]
-    proof += ['    ∷ []', opened, 'types-are o = refl', '']
-    proof += ['pub message-is : (o : List ℕ) (kind : TampType) → grammarOf o (messageRow kind) ≡ syntaxOf kind', opened + ' syntaxOf']
-    proof += [f'message-is o {p} = refl' for p, _ in message_rows]
-    proof += ['', 'pub form-is : (f : Form) → grammarOf id-signedData (formRow f) ≡ formSyntax f', opened + ' formSyntax']
-    proof += [f'form-is {p} = refl' for p, _ in form_rows] + ['form-is (form.Message kind) = message-is id-signedData kind']
-    proof += ['', 'pub attribute-is : (o : List ℕ) (f : AttributeForm) → grammarOf o (attributeRow f) ≡ attributeSyntax f o',
-              opened + ' attributeSyntax']
-    proof += [f'attribute-is o {p} = refl' for p, _ in attribute_rows]
+    proof += ['    ∷ []', opened, 'types_are o = refl', '']
+    proof += ['pub message_is : (o : List ℕ) (kind : TampType) → grammar_of o (message_row kind) ≡ syntax_of kind', opened + ' syntax_of']
+    proof += [f'message_is o {p} = refl' for p, _ in message_rows]
+    proof += ['', 'pub form_is : (f : Form) → grammar_of id_signed_data (form_row f) ≡ form_syntax f', opened + ' form_syntax']
+    proof += [f'form_is {p} = refl' for p, _ in form_rows] + ['form_is (form.Message kind) = message_is id_signed_data kind']
+    proof += ['', 'pub attribute_is : (o : List ℕ) (f : AttributeForm) → grammar_of o (attribute_row f) ≡ attribute_syntax f o',
+              opened + ' attribute_syntax']
+    proof += [f'attribute_is o {p} = refl' for p, _ in attribute_rows]
     write('proofs/Ties.antt', proof)
     print(f'{count} rows, {len(ties)} types')
 

@@ -1,13 +1,14 @@
 // Runs cases about rights from standard input and prints an answer for each: within or not, authorised or not. tools/rights_cases.py has the format.
 #![tactic(auto)]
 
-ghost use Rattle.std.specs.Prelude.{◌≡◌, ◌+◌, ◌<◌, ◌≤◌, length};
+ghost use Rattle.std.specs.Prelude.{◌≡◌, ◌+◌, ◌<◌, ◌≤◌, length, IfOk};
 ghost use Rattle.rights.specs.Rights.{authorises};
 ghost use Rattle.rights.specs.Decision.{within};
 ghost use Rattle.anchor.specs.Info.{rights_of};
 ghost use Rattle.rights_cases.specs.Contract.Cases.{rights_if, content_in, frame_end};
 
-use libc::STDOUT_FILENO;
+use std::io;
+use std::io::Write;
 
 // Where the frame at p ends.
 fn frame_end(s: &[u8], p: usize) -> usize
@@ -53,9 +54,9 @@ fn is_authorised(apex: u8, role: u8, t: &[u8], key: &[u8], attributes: &[u8]) ->
 }
 
 // Answers the case W at p, and says where it ends.
-fn within_case(s: &[u8], p: usize) -> usize
+fn within_case<W: Write>(out: &mut W, s: &[u8], p: usize) -> io::Result<usize>
     requires { p + 3 ≤ length s.now }
-    ensures { (p < result) × (result ≤ length s.now) }
+    ensures { IfOk result (λ next. (p < next) × (next ≤ length s.now)) }
 {
     let a = frame_end(s, p + 2);
     let b = frame_end(s, a);
@@ -64,17 +65,17 @@ fn within_case(s: &[u8], p: usize) -> usize
         octets::slice(s, p + 4, a),
         octets::slice(s, a + 2, b),
     ) {
-        io::write_all(STDOUT_FILENO, b"within\n");
+        out.write_all(b"within\n")?;
     } else {
-        io::write_all(STDOUT_FILENO, b"not\n");
+        out.write_all(b"not\n")?;
     }
-    b
+    Ok(b)
 }
 
 // Answers the case A at p, and says where it ends.
-fn authorised_case(s: &[u8], p: usize) -> usize
+fn authorised_case<W: Write>(out: &mut W, s: &[u8], p: usize) -> io::Result<usize>
     requires { p + 3 ≤ length s.now }
-    ensures { (p < result) × (result ≤ length s.now) }
+    ensures { IfOk result (λ next. (p < next) × (next ≤ length s.now)) }
 {
     let a = frame_end(s, p + 3);
     let b = frame_end(s, a);
@@ -87,33 +88,35 @@ fn authorised_case(s: &[u8], p: usize) -> usize
         octets::slice(s, a + 2, b),
         octets::slice(s, b + 2, e),
     ) {
-        io::write_all(STDOUT_FILENO, b"authorised\n");
+        out.write_all(b"authorised\n")?;
     } else {
-        io::write_all(STDOUT_FILENO, b"not\n");
+        out.write_all(b"not\n")?;
     }
-    e
+    Ok(e)
 }
 
 // Answers the case at p, and says where it ends.
-fn case(s: &[u8], p: usize) -> usize
+fn case<W: Write>(out: &mut W, s: &[u8], p: usize) -> io::Result<usize>
     requires { p + 3 ≤ length s.now }
-    ensures { (p < result) × (result ≤ length s.now) }
+    ensures { IfOk result (λ next. (p < next) × (next ≤ length s.now)) }
 {
     if s[p] == b'W' {
-        return within_case(s, p);
+        return within_case(out, s, p);
     }
-    authorised_case(s, p)
+    authorised_case(out, s, p)
 }
 
-fn main() {
+fn main(rt: HostRuntime) -> io::Result<()> {
     let mut input = [0u8; 65536];
-    let n = io::read_full(0, &mut input);
+    let n = reader::read_full(&mut rt.stdin(), &mut input)?;
     let s = &input[..n];
+    let mut out = rt.stdout();
     let mut p = 0;
     while p < s.len() {
         if s.len() - p < 3 {
-            return;
+            break;
         }
-        p = case(s, p);
+        p = case(&mut out, s, p)?;
     }
+    Ok(())
 }

@@ -241,8 +241,7 @@ fn respond(s: &[u8], j: Acceptance, image: &[u8], reply: &mut [u8], next: &mut [
 }
 
 // The call: 201 to 204 in their order, then 205 or the answer. The rows after 201 are computed on any octets.
-#[unsafe(no_mangle)]
-pub extern "C" fn tamp_call(
+pub fn tamp_call(
     message: &[u8],
     image: &[u8],
     verdict: &[u8],

@@ -2,62 +2,67 @@
 // reply room, next store room), then the message, the image and the verdict.
 #![tactic(auto)]
 
-use libc::{STDIN_FILENO, STDOUT_FILENO};
+use std::io;
+use std::io::{Read, Write};
 
 // So many octets are printed at a time.
 const CHUNK: usize = 2048;
 
 // Octets in hex.
-fn print_octets(o: &[u8]) {
+fn print_octets<W: Write>(out: &mut W, o: &[u8]) -> io::Result<()> {
     let mut text = [0u8; 4096];
     let mut i = 0;
     while i < o.len() {
         let n = listing::hex_text(&mut text, octets::slice(o, i, i + CHUNK));
-        io::write_all(STDOUT_FILENO, &text[..n]);
+        out.write_all(&text[..n])?;
         i += CHUNK;
     }
+    Ok(())
 }
 
 // A line of a word and octets in hex, - where there are none.
-fn print_line(word: &[u8], o: &[u8]) {
-    io::write_all(STDOUT_FILENO, word);
+fn print_line<W: Write>(out: &mut W, word: &[u8], o: &[u8]) -> io::Result<()> {
+    out.write_all(word)?;
     if o.len() == 0 {
-        io::write_all(STDOUT_FILENO, b"-");
+        out.write_all(b"-")?;
     }
-    print_octets(o);
-    io::write_all(STDOUT_FILENO, b"\n");
+    print_octets(out, o)?;
+    out.write_all(b"\n")
 }
 
 // A line of a word and a number.
-fn print_number(word: &[u8], n: u64) {
-    io::write_all(STDOUT_FILENO, word);
-    io::print_decimal(STDOUT_FILENO, n);
-    io::write_all(STDOUT_FILENO, b"\n");
+fn print_number<W: Write>(out: &mut W, word: &[u8], n: u64) -> io::Result<()> {
+    out.write_all(word)?;
+    writeln!(out, "{n}")
 }
 
-fn print_call(message: &[u8], image: &[u8], verdict: &[u8], reply: &mut [u8], next: &mut [u8]) {
+fn print_call<W: Write>(
+    out: &mut W,
+    message: &[u8],
+    image: &[u8],
+    verdict: &[u8],
+    reply: &mut [u8],
+    next: &mut [u8],
+) -> io::Result<()> {
     let r = tamp::tamp_call(message, image, verdict, reply, next);
-    print_number(b"status ", r.number as u64);
-    print_number(b"offset ", r.offset);
-    print_line(b"reply ", octets::slice(reply, 0, r.reply_len as usize));
-    print_line(b"store ", octets::slice(next, 0, r.next_len as usize));
+    print_number(out, b"status ", r.number as u64)?;
+    print_number(out, b"offset ", r.offset)?;
+    print_line(
+        out,
+        b"reply ",
+        octets::slice(reply, 0, r.reply_len as usize),
+    )?;
+    print_line(out, b"store ", octets::slice(next, 0, r.next_len as usize))
 }
 
-fn bad_call() -> bool {
-    io::write_all(STDOUT_FILENO, b"bad call\n");
-    false
-}
-
-// Reads n octets into the buffer; whether there is room for them and the input has them.
-fn fill(buffer: &mut [u8], n: usize) -> bool {
-    if buffer.len() < n {
-        return false;
-    }
-    io::read_full(STDIN_FILENO, &mut buffer[..n]) == n
+fn bad_call<W: Write>(out: &mut W) -> io::Result<bool> {
+    out.write_all(b"bad call\n")?;
+    Ok(false)
 }
 
 // The call with so much of the two buffers lent; whether they have it.
-fn lend(
+fn lend<W: Write>(
+    out: &mut W,
     message: &[u8],
     image: &[u8],
     verdict: &[u8],
@@ -65,15 +70,22 @@ fn lend(
     r: usize,
     next: &mut [u8],
     x: usize,
-) -> bool {
+) -> io::Result<bool> {
     if reply.len() < r {
-        return bad_call();
+        return bad_call(out);
     }
     if next.len() < x {
-        return bad_call();
+        return bad_call(out);
     }
-    print_call(message, image, verdict, &mut reply[..r], &mut next[..x]);
-    true
+    print_call(
+        out,
+        message,
+        image,
+        verdict,
+        &mut reply[..r],
+        &mut next[..x],
+    )?;
+    Ok(true)
 }
 
 // The number at a place of a call's head.
@@ -82,7 +94,7 @@ fn number(head: &[u8; 20], at: usize) -> usize {
 }
 
 // The call after its head.
-fn call(head: &[u8; 20]) -> bool {
+fn call<R: Read, W: Write>(input: &mut R, out: &mut W, head: &[u8; 20]) -> io::Result<bool> {
     let mut message = [0u8; 16384];
     let mut image = [0u8; 131072];
     let mut verdict = [0u8; 255];
@@ -91,16 +103,17 @@ fn call(head: &[u8; 20]) -> bool {
     let m = number(head, 0);
     let n = number(head, 4);
     let v = number(head, 8);
-    if !fill(&mut message, m) {
-        return bad_call();
+    if !reader::fill(input, &mut message, m)? {
+        return bad_call(out);
     }
-    if !fill(&mut image, n) {
-        return bad_call();
+    if !reader::fill(input, &mut image, n)? {
+        return bad_call(out);
     }
-    if !fill(&mut verdict, v) {
-        return bad_call();
+    if !reader::fill(input, &mut verdict, v)? {
+        return bad_call(out);
     }
     lend(
+        out,
         octets::slice(&message, 0, m),
         octets::slice(&image, 0, n),
         octets::slice(&verdict, 0, v),
@@ -112,22 +125,26 @@ fn call(head: &[u8; 20]) -> bool {
 }
 
 // Reads a call and prints its answer; whether to go on.
-fn next() -> bool {
+fn next<R: Read, W: Write>(input: &mut R, out: &mut W) -> io::Result<bool> {
     let mut head = [0u8; 20];
-    let got = io::read_full(STDIN_FILENO, &mut head);
+    let got = reader::read_full(input, &mut head)?;
     if got == 0 {
-        return false;
+        return Ok(false);
     }
     if got != 20 {
-        return bad_call();
+        return bad_call(out);
     }
-    call(&head)
+    call(input, out, &head)
 }
 
-// A proved loop has to end, and nothing says that the input does: it counts down from a number that no run uses up.
-fn main() {
-    let mut turns = u64::MAX;
-    while turns > 0 && next() {
-        turns -= 1;
+// A proved loop has to end, and nothing says that the input does: it counts its turns up to a number that no run uses up.
+fn main(rt: HostRuntime) -> io::Result<()> {
+    let mut input = rt.stdin();
+    let mut out = rt.stdout();
+    for _ in 0..u64::MAX {
+        if !next(&mut input, &mut out)? {
+            break;
+        }
     }
+    Ok(())
 }

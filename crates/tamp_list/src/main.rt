@@ -1,13 +1,14 @@
 // The listing program (01, Checked examples): reads a store image from standard input and prints its listing.
 #![tactic(auto)]
 
-use libc::{STDIN_FILENO, STDOUT_FILENO};
+use std::io;
+use std::io::Write;
 
-fn main() {
+fn main(rt: HostRuntime) -> io::Result<()> {
     // one octet more than the largest image: whatever is longer is refused as it is
     let mut image = [0u8; 33718];
-    let n = io::read_full(STDIN_FILENO, &mut image);
+    let n = reader::read_full(&mut rt.stdin(), &mut image)?;
     let mut text = [0u8; 8192];
     let m = listing::list(&image[..n], &mut text);
-    io::write_all(STDOUT_FILENO, &text[..m]);
+    rt.stdout().write_all(&text[..m])
 }
