@@ -36,6 +36,7 @@ esac
 cd "$top"
 program "$dir/log" tamp_call
 program "$dir/log" tamp_list
-crates/tamp_call/out/tamp_call < "$dir/calls" | head -4 | tee "$dir/answer"
+crates/tamp_call/out/tamp_call < "$dir/calls" > "$dir/answers"
+head -4 "$dir/answers" | tee "$dir/answer"
 if grep -q '^bad call\|^status 20[1-5]$' "$dir/answer"; then exit 1; fi
 sed -n 's/^store //p' "$dir/answer" | xxd -r -p | crates/tamp_list/out/tamp_list
