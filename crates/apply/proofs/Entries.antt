@@ -7,7 +7,6 @@ use Rattle.octets.specs.Status.{unsupported_trust_anchor_format, improper_ta_cha
 use Rattle.der.specs.declared.Element.{Element}
 use Rattle.der.specs.Element.{encoding}
 use Rattle.rights.specs.Rights.{Rights}
-use Rattle.anchor.specs.declared.AnchorCheck.TheVariants as judged
 use Rattle.anchor.specs.Judge.{check_status as judgedStatus}
 use Rattle.store.specs.Steps.{with_others}
 use Rattle.message.specs.declared.Entry.{Entry}

@@ -1,7 +1,7 @@
 -- Octets that a writer appends, one list after the other: what is left of them, the room for the next list, and what stands at last.
-use Rattle.std.proofs.Common.{◌≡◌, ℕ, ◌+◌, ◌≤◌, List, [], ◌∷◌, length, refl, ap, ◌∙◌, arith}
+use Rattle.std.proofs.Common.{◌≡◌, ℕ, ◌+◌, ◌≤◌, List, [], ◌∷◌, length, refl, ap, arith}
 use Rattle.octets.specs.Octets.{placed}
-use Rattle.octets.proofs.Turns.{Unwritten, left_start, left_fits, left_step, left_end}
+use Rattle.octets.proofs.Turns.{Unwritten, left_fits, left_step, left_end}
 use Rattle.reply.specs.declared.Writer.{Writer}
 use Rattle.reply.specs.Contract.Parts.{wrote, joined}
 

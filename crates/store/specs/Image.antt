@@ -1,5 +1,5 @@
 -- 01, The store image: reading and writing it. Status 201 is "decode gives nothing".
-use Rattle.std.specs.Prelude.{ℕ, zero, suc, ◌+◌, ◌-◌, Bool, true, false, ◌&&◌, ◌||◌, length, take, drop, leb, eqb}
+use Rattle.std.specs.Prelude.{ℕ, zero, suc, ◌-◌, Bool, true, false, ◌&&◌, ◌||◌, length, take, drop, leb, eqb}
 use mathlib.Core.List.{List, [], ◌∷◌, ◌++◌, map, flat_map}
 use Rattle.std.proofs.Math.Option.{Option, none, some, Option-elim}
 use Rattle.octets.specs.Limits.{max_anchors, max_communities, max_name_octets, max_anchor_octets, max_number}

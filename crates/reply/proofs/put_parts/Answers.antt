@@ -1,9 +1,8 @@
 -- The writer's place and the octets that are left, one append after the other.
-use Rattle.std.proofs.Common.{◌≡◌, List, [], ◌∷◌, sym, ◌∙◌, length, ℕ, ◌≤◌}
+use Rattle.std.proofs.Common.{[], ◌∷◌, sym, ◌∙◌}
 use Rattle.octets.proofs.Turns.{left_start}
-use Rattle.reply.specs.declared.Writer.{Writer}
-use Rattle.reply.specs.Contract.Parts.{part_of, five_parts, wrote}
-use Rattle.reply.proofs.Chain.{Going, fits, goes, ends}
+use Rattle.reply.specs.Contract.Parts.{part_of, five_parts}
+use Rattle.reply.proofs.Chain.{fits, goes, ends}
 use Rattle.reply.proofs.put_parts.Goals as goal
 
 pub append-requires : goal.append-requires

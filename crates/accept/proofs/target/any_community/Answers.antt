@@ -4,7 +4,6 @@ use Rattle.der.proofs.Runs.{run_on}
 use Prim.Native.Nat.{ℕ}
 use mathlib.Core.List.{List}
 use Rattle.octets.specs.Octets.{member}
-use Rattle.der.specs.Element.{contents}
 use Rattle.store.specs.Contract.Parts.{names_from}
 use Rattle.der.proofs.Loops.{any_none, any_here, any_later}
 use Rattle.accept.proofs.target.any_community.Goals as goal

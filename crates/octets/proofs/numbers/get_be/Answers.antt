@@ -1,4 +1,4 @@
-use Rattle.std.proofs.Common.{◌≡◌, ◌≤◌, ◌<◌, length, get_or, take, drop, refl, sym, ap, ◌∙◌, arith}
+use Rattle.std.proofs.Common.{◌≡◌, ◌≤◌, ◌<◌, length, get_or, drop, refl, sym, ap, ◌∙◌, arith}
 use Prim.Native.Nat.{min}
 use lib.ListN.{length-drop}
 use lib.Seq.{take_all, get_or-drop}

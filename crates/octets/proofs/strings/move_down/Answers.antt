@@ -1,4 +1,4 @@
-use Rattle.std.proofs.Common.{◌≡◌, ◌+◌, take, drop, refl, sym, ap, ◌∙◌, arith}
+use Rattle.std.proofs.Common.{◌+◌, take, drop, refl, sym, ap, ◌∙◌, arith}
 use lib.ListN.{length-set}
 use lib.Seq.{take_all}
 use Rattle.octets.specs.Octets.{placed}

@@ -8,7 +8,6 @@ use Rattle.der.specs.declared.Element.{Element}
 use Rattle.der.specs.Element.{element_at}
 use Rattle.der.proofs.Elements.{valid_within}
 use Rattle.der.proofs.Fits.{then_fits, then_breaks}
-use Rattle.syntax.proofs.Rows.{first_fits}
 use Rattle.syntax.proofs.Window.{own}
 use Rattle.syntax.proofs.Match.{Met, met}
 use Rattle.syntax.proofs.RowSteps.{lone_other, lone_here, rule_alone, field_kind, rule_kind, row_free, row_end, row_end_breaks, row_many, row_rule}
