@@ -166,7 +166,6 @@ class Table:
     def comment(self, n):
         """the kind of a row in one word, and the fields that it stands in; the first two rows stand in most"""
         kind, labels = self.labels[n]
-        kind = re.sub('_(.)', lambda found: found.group(1).upper(), kind)
         return f'{n}: {kind}' + (' in ' + ', '.join(labels) if n > 1 else '')
 
 

@@ -99,7 +99,7 @@ pub fn extn_value(t: &[u8], e: Element) -> &[u8]
     der::contents(t, der::field(t, e, der::OCTET_STRING))
 }
 
-// CMSContentConstraints as octets by itself, none where there is no extension. It stands for the anchor's rights (proofs/Rights, value-rights).
+// CMSContentConstraints as octets by itself, none where there is no extension. It stands for the anchor's rights (proofs/Rights, value_rights).
 pub fn constraints_value(t: &[u8]) -> &[u8]
     ensures { result.now ≡ constraints_value t.now }
 {

@@ -146,7 +146,8 @@ fn add_name(names: &mut [u8], len: usize, kept: usize, name: &[u8]) -> Grown
     if store::has_name(&names[..len], 1, kept, name) {
         return Grown::To(len);
     }
-    if names[0] == 16 {
+    let is_full = names[0] == 16;
+    if is_full {
         return Grown::Full;
     }
     Grown::To(join(names, len, name))

@@ -129,7 +129,8 @@ fn add(image: &[u8], w: Signer, work: &mut [u8], len: usize, old: usize, t: &[u8
         }
         return Applied::Failed(Status::IMPROPER_TA_ADDITION);
     }
-    if octets::MAX_ANCHORS <= store::anchor_count(&work[..len]) {
+    let is_full = octets::MAX_ANCHORS <= store::anchor_count(&work[..len]);
+    if is_full {
         return Applied::Failed(Status::INSUFFICIENT_MEMORY);
     }
     let n = append(work, len, t);
@@ -366,7 +367,8 @@ pub fn update(
         × Codes message.now q (signer_rights image.now w) w image.now codes.old codes.new }
 {
     let count = message::entry_count(message, q.updates);
-    if octets::MAX_UPDATES < count {
+    let is_over = octets::MAX_UPDATES < count;
+    if is_over {
         return move_number(q, w, image, next, Status::INSUFFICIENT_MEMORY);
     }
     let mut work = [0u8; octets::IMAGE_ROOM];

@@ -1,7 +1,7 @@
 // Runs cases about rights from standard input and prints an answer for each: within or not, authorised or not. tools/rights_cases.py has the format.
 #![tactic(auto)]
 
-ghost use Rattle.std.specs.Prelude.{◌≡◌, ◌+◌, ◌<◌, ◌≤◌, length, IfOk};
+ghost use Rattle.std.specs.Prelude.{◌≡◌, ◌+◌, ◌<◌, ◌≤◌, length};
 ghost use Rattle.rights.specs.Rights.{authorises};
 ghost use Rattle.rights.specs.Decision.{within};
 ghost use Rattle.anchor.specs.Info.{rights_of};
@@ -53,10 +53,10 @@ fn is_authorised(apex: u8, role: u8, t: &[u8], key: &[u8], attributes: &[u8]) ->
     rights::authorises(anchor::constraints_value(t), key, attributes, e)
 }
 
-// Answers the case W at p, and says where it ends.
-fn within_case<W: Write>(out: &mut W, s: &[u8], p: usize) -> io::Result<usize>
+// The answer to the case W at p, and where the case ends.
+fn within_case(s: &[u8], p: usize) -> (&'static [u8], usize)
     requires { p + 3 ≤ length s.now }
-    ensures { IfOk result (λ next. (p < next) × (next ≤ length s.now)) }
+    ensures { (p < result.1) × (result.1 ≤ length s.now) }
 {
     let a = frame_end(s, p + 2);
     let b = frame_end(s, a);
@@ -65,17 +65,15 @@ fn within_case<W: Write>(out: &mut W, s: &[u8], p: usize) -> io::Result<usize>
         octets::slice(s, p + 4, a),
         octets::slice(s, a + 2, b),
     ) {
-        out.write_all(b"within\n")?;
-    } else {
-        out.write_all(b"not\n")?;
+        return (b"within\n", b);
     }
-    Ok(b)
+    (b"not\n", b)
 }
 
-// Answers the case A at p, and says where it ends.
-fn authorised_case<W: Write>(out: &mut W, s: &[u8], p: usize) -> io::Result<usize>
+// The answer to the case A at p, and where the case ends.
+fn authorised_case(s: &[u8], p: usize) -> (&'static [u8], usize)
     requires { p + 3 ≤ length s.now }
-    ensures { IfOk result (λ next. (p < next) × (next ≤ length s.now)) }
+    ensures { (p < result.1) × (result.1 ≤ length s.now) }
 {
     let a = frame_end(s, p + 3);
     let b = frame_end(s, a);
@@ -88,22 +86,20 @@ fn authorised_case<W: Write>(out: &mut W, s: &[u8], p: usize) -> io::Result<usiz
         octets::slice(s, a + 2, b),
         octets::slice(s, b + 2, e),
     ) {
-        out.write_all(b"authorised\n")?;
-    } else {
-        out.write_all(b"not\n")?;
+        return (b"authorised\n", e);
     }
-    Ok(e)
+    (b"not\n", e)
 }
 
-// Answers the case at p, and says where it ends.
-fn case<W: Write>(out: &mut W, s: &[u8], p: usize) -> io::Result<usize>
+// The answer to the case at p, and where the case ends.
+fn case(s: &[u8], p: usize) -> (&'static [u8], usize)
     requires { p + 3 ≤ length s.now }
-    ensures { IfOk result (λ next. (p < next) × (next ≤ length s.now)) }
+    ensures { (p < result.1) × (result.1 ≤ length s.now) }
 {
     if s[p] == b'W' {
-        return within_case(out, s, p);
+        return within_case(s, p);
     }
-    authorised_case(out, s, p)
+    authorised_case(s, p)
 }
 
 fn main(rt: HostRuntime) -> io::Result<()> {
@@ -116,7 +112,9 @@ fn main(rt: HostRuntime) -> io::Result<()> {
         if s.len() - p < 3 {
             break;
         }
-        p = case(&mut out, s, p)?;
+        let (answer, end) = case(s, p);
+        out.write_all(answer)?;
+        p = end;
     }
     Ok(())
 }

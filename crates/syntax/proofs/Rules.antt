@@ -30,7 +30,7 @@ small (x ∷ o) b h k =
     let f : 0 * 256 + x ≡ x = omega arith in
     rw f (below x o (λ i. b (suc i)) (ltb-true x 128 k) (omega arith))
 
--- of octets, what has 8 at most and is not negative is at most maxNumber
+-- of octets, what has 8 at most and is not negative is at most max_number
 pub seq_number_is : (o : List ℕ) → Octets o → leb (length o) 8 && ltb (octet o 0) 128 ≡ obeyed seq_number o
 unfolding obeyed
 seq_number_is o b = go (leb (length o) 8) (ltb (octet o 0) 128) refl refl

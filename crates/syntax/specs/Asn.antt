@@ -170,7 +170,7 @@ version next = optional 0x80 (obeys (integer_but 2) free) next
 abbrev terse : Syntax → Syntax
 terse next = optional 0x81 (value 1) next
 
--- SeqNumber ::= INTEGER (0..9223372036854775807): maxNumber
+-- SeqNumber ::= INTEGER (0..9223372036854775807): max_number
 abbrev SeqNumber : Syntax
 SeqNumber = obeys seq_number free
 

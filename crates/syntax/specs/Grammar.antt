@@ -22,7 +22,7 @@ pub data Rule : Type 0 where
   equals : (o : List ℕ) → Rule
   -- an INTEGER hidden by a context tag, other than the default n ("default values omitted")
   integer_but : (n : ℕ) → Rule
-  -- an INTEGER from 0 to maxNumber
+  -- an INTEGER from 0 to max_number
   seq_number : Rule
 
 unfoldable pub obeyed : Rule → List ℕ → Bool
@@ -31,7 +31,7 @@ obeyed (size_to n) o = leb 1 (length o) && leb (length o) n
 obeyed empty o = same o []
 obeyed (equals c) o = same o c
 obeyed (integer_but n) o = integer_ok o && not (same o (n ∷ []))
--- not negative, and at most maxNumber; its shortest form (status 1) has 8 octets at most
+-- not negative, and at most max_number; its shortest form (status 1) has 8 octets at most
 obeyed seq_number o = leb (length o) 8 && (ltb (octet o 0) 128 && leb (number o) max_number)
 
 -- what may stand in a window

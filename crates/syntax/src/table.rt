@@ -7,7 +7,7 @@ pub const ROWS: Table = [
     0, 0x00, 0, 0,
     // 1: end
     1, 0x00, 0, 0,
-    // 2: anyOptional in AlgorithmIdentifier.parameters
+    // 2: any_optional in AlgorithmIdentifier.parameters
     5, 0x00, 0, 1,
     // 3: required in AlgorithmIdentifier.algorithm
     3, 0x06, 0, 2,
@@ -27,7 +27,7 @@ pub const ROWS: Table = [
     2, 0x30, 9, 1,
     // 11: many in Extensions, TrustAnchorInfo.exts, TrustAnchorChangeInfo.exts
     6, 0x00, 10, 0,
-    // 12: notEmpty in Extensions, TrustAnchorInfo.exts, TrustAnchorChangeInfo.exts
+    // 12: not_empty in Extensions, TrustAnchorInfo.exts, TrustAnchorChangeInfo.exts
     7, 0x00, 11, 0,
     // 13: one in ContentInfo.content, ContentInfoSignedData.content, AnotherName.value, Attribute.attrValues
     4, 0x00, 0, 1,
@@ -81,9 +81,9 @@ pub const ROWS: Table = [
     3, 0x02, 20, 36,
     // 38: required in OneSignerInfo
     3, 0x30, 37, 1,
-    // 39: integerBut in TrustAnchorInfo.version
+    // 39: integer_but in TrustAnchorInfo.version
     12, 0x01, 0, 0,
-    // 40: sizeTo in TrustAnchorInfo.taTitle, TrustAnchorChangeInfo.taTitle
+    // 40: size_to in TrustAnchorInfo.taTitle, TrustAnchorChangeInfo.taTitle
     8, 0x40, 0, 0,
     // 41: required in TrustAnchorInfo.exts
     3, 0x30, 12, 1,
@@ -125,7 +125,7 @@ pub const ROWS: Table = [
     2, 0x05, 55, 58,
     // 60: many in HardwareModules.hwSerialEntries
     6, 0x00, 59, 0,
-    // 61: notEmpty in HardwareModules.hwSerialEntries
+    // 61: not_empty in HardwareModules.hwSerialEntries
     7, 0x00, 60, 0,
     // 62: required in HardwareModules.hwSerialEntries
     3, 0x30, 61, 1,
@@ -135,7 +135,7 @@ pub const ROWS: Table = [
     2, 0x30, 63, 1,
     // 65: many in TargetIdentifier.hwModules
     6, 0x00, 64, 0,
-    // 66: notEmpty in TargetIdentifier.hwModules
+    // 66: not_empty in TargetIdentifier.hwModules
     7, 0x00, 65, 0,
     // 67: optional in TargetIdentifier.otherName
     2, 0xA5, 15, 1,
@@ -147,13 +147,13 @@ pub const ROWS: Table = [
     2, 0xA2, 54, 69,
     // 71: optional in TargetIdentifier.hwModules
     2, 0xA1, 66, 70,
-    // 72: seqNumber in TAMPMsgRef.seqNum, TAMPSequenceNumber.seqNumber
+    // 72: seq_number in TAMPMsgRef.seqNum, TAMPSequenceNumber.seqNumber
     13, 0x00, 0, 0,
     // 73: required in TAMPMsgRef.seqNum, TAMPSequenceNumber.seqNumber
     3, 0x02, 72, 1,
     // 74: one in TAMPMsgRef.target
     4, 0x00, 71, 73,
-    // 75: integerBut in TAMPStatusQuery.version, TAMPUpdate.version, TAMPCommunityUpdate.version, SequenceNumberAdjust.version
+    // 75: integer_but in TAMPStatusQuery.version, TAMPUpdate.version, TAMPCommunityUpdate.version, SequenceNumberAdjust.version
     12, 0x02, 0, 0,
     // 76: equals in TAMPStatusQuery.terse, TAMPUpdate.terse, TAMPCommunityUpdate.terse, ContentTypeConstraint.canSource
     10, 0x01, 0, 0,
@@ -195,11 +195,11 @@ pub const ROWS: Table = [
     2, 0x30, 93, 1,
     // 95: many in TAMPSequenceNumbers, TAMPUpdate.tampSeqNumbers
     6, 0x00, 94, 0,
-    // 96: notEmpty in TAMPSequenceNumbers, TAMPUpdate.tampSeqNumbers
+    // 96: not_empty in TAMPSequenceNumbers, TAMPUpdate.tampSeqNumbers
     7, 0x00, 95, 0,
     // 97: many in TAMPUpdate.updates
     6, 0x00, 92, 0,
-    // 98: notEmpty in TAMPUpdate.updates
+    // 98: not_empty in TAMPUpdate.updates
     7, 0x00, 97, 0,
     // 99: optional in TAMPUpdate.tampSeqNumbers
     2, 0xA2, 96, 1,
@@ -217,7 +217,7 @@ pub const ROWS: Table = [
     2, 0xA2, 54, 1,
     // 106: optional in CommunityUpdates.remove
     2, 0xA1, 54, 105,
-    // 107: notEmpty in CommunityUpdates
+    // 107: not_empty in CommunityUpdates
     7, 0x00, 106, 0,
     // 108: required in TAMPCommunityUpdate.updates
     3, 0x30, 107, 1,
@@ -233,7 +233,7 @@ pub const ROWS: Table = [
     2, 0x80, 75, 77,
     // 114: required in SequenceNumberAdjust
     3, 0x30, 113, 1,
-    // 115: notEmpty in AttrConstraint.attrValues
+    // 115: not_empty in AttrConstraint.attrValues
     7, 0x00, 0, 0,
     // 116: required in AttrConstraint.attrValues
     3, 0x31, 115, 1,
@@ -243,7 +243,7 @@ pub const ROWS: Table = [
     2, 0x30, 117, 1,
     // 119: many in AttrConstraintList, ContentTypeConstraint.attrConstraints
     6, 0x00, 118, 0,
-    // 120: notEmpty in AttrConstraintList, ContentTypeConstraint.attrConstraints
+    // 120: not_empty in AttrConstraintList, ContentTypeConstraint.attrConstraints
     7, 0x00, 119, 0,
     // 121: optional in ContentTypeConstraint.attrConstraints
     2, 0x30, 120, 1,
@@ -255,7 +255,7 @@ pub const ROWS: Table = [
     2, 0x30, 123, 1,
     // 125: many in CMSContentConstraints
     6, 0x00, 124, 0,
-    // 126: notEmpty in CMSContentConstraints
+    // 126: not_empty in CMSContentConstraints
     7, 0x00, 125, 0,
     // 127: required in CMSContentConstraints
     3, 0x30, 126, 1,

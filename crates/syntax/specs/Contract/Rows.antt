@@ -45,7 +45,7 @@ grammar_of o n = grown n o n
 abbrev pub syntax_at : List ℕ → Row → Syntax
 syntax_at o row = row_syntax row.kind row.argument o (grammar_of o row.body) (grammar_of o row.next)
 
--- the kinds of a field: optional, required, one, anyOptional. The next row says what stands after the field
+-- the kinds of a field: optional, required, one, any_optional. The next row says what stands after the field
 abbrev pub is_field : ℕ → Bool
 is_field kind = leb 2 kind && ltb kind 6
 

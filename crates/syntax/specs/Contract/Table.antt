@@ -15,7 +15,7 @@ unfoldable pub rows : List ℕ
 rows =
     0 ∷ 0x00 ∷ 0 ∷ 0  -- 0: free
     ∷ 1 ∷ 0x00 ∷ 0 ∷ 0  -- 1: end
-    ∷ 5 ∷ 0x00 ∷ 0 ∷ 1  -- 2: anyOptional in AlgorithmIdentifier.parameters
+    ∷ 5 ∷ 0x00 ∷ 0 ∷ 1  -- 2: any_optional in AlgorithmIdentifier.parameters
     ∷ 3 ∷ 0x06 ∷ 0 ∷ 2  -- 3: required in AlgorithmIdentifier.algorithm
     ∷ 3 ∷ 0x03 ∷ 0 ∷ 1  -- 4: required in SubjectPublicKeyInfo.subjectPublicKey
     ∷ 3 ∷ 0x30 ∷ 3 ∷ 4  -- 5: required in SubjectPublicKeyInfo.algorithm
@@ -25,7 +25,7 @@ rows =
     ∷ 3 ∷ 0x06 ∷ 0 ∷ 8  -- 9: required in Extension.extnID
     ∷ 2 ∷ 0x30 ∷ 9 ∷ 1  -- 10: optional in Extensions, TrustAnchorInfo.exts, TrustAnchorChangeInfo.exts
     ∷ 6 ∷ 0x00 ∷ 10 ∷ 0  -- 11: many in Extensions, TrustAnchorInfo.exts, TrustAnchorChangeInfo.exts
-    ∷ 7 ∷ 0x00 ∷ 11 ∷ 0  -- 12: notEmpty in Extensions, TrustAnchorInfo.exts, TrustAnchorChangeInfo.exts
+    ∷ 7 ∷ 0x00 ∷ 11 ∷ 0  -- 12: not_empty in Extensions, TrustAnchorInfo.exts, TrustAnchorChangeInfo.exts
     ∷ 4 ∷ 0x00 ∷ 0 ∷ 1  -- 13: one in ContentInfo.content, ContentInfoSignedData.content, AnotherName.value, Attribute.attrValues
     ∷ 3 ∷ 0xA0 ∷ 13 ∷ 1  -- 14: required in ContentInfo.content, ContentInfoSignedData.content, AnotherName.value
     ∷ 3 ∷ 0x06 ∷ 0 ∷ 14  -- 15: required in ContentInfo.contentType, AnotherName.type-id
@@ -52,8 +52,8 @@ rows =
     ∷ 3 ∷ 0x80 ∷ 0 ∷ 35  -- 36: required in SignerInfo.sid
     ∷ 3 ∷ 0x02 ∷ 20 ∷ 36  -- 37: required in SignerInfo.version
     ∷ 3 ∷ 0x30 ∷ 37 ∷ 1  -- 38: required in OneSignerInfo
-    ∷ 12 ∷ 0x01 ∷ 0 ∷ 0  -- 39: integerBut in TrustAnchorInfo.version
-    ∷ 8 ∷ 0x40 ∷ 0 ∷ 0  -- 40: sizeTo in TrustAnchorInfo.taTitle, TrustAnchorChangeInfo.taTitle
+    ∷ 12 ∷ 0x01 ∷ 0 ∷ 0  -- 39: integer_but in TrustAnchorInfo.version
+    ∷ 8 ∷ 0x40 ∷ 0 ∷ 0  -- 40: size_to in TrustAnchorInfo.taTitle, TrustAnchorChangeInfo.taTitle
     ∷ 3 ∷ 0x30 ∷ 12 ∷ 1  -- 41: required in TrustAnchorInfo.exts
     ∷ 2 ∷ 0x82 ∷ 0 ∷ 1  -- 42: optional in TrustAnchorInfo.taTitleLangTag
     ∷ 2 ∷ 0xA1 ∷ 41 ∷ 42  -- 43: optional in TrustAnchorInfo.exts
@@ -74,21 +74,21 @@ rows =
     ∷ 2 ∷ 0x04 ∷ 0 ∷ 57  -- 58: optional in HardwareSerialEntry.single
     ∷ 2 ∷ 0x05 ∷ 55 ∷ 58  -- 59: optional in HardwareSerialEntry.all
     ∷ 6 ∷ 0x00 ∷ 59 ∷ 0  -- 60: many in HardwareModules.hwSerialEntries
-    ∷ 7 ∷ 0x00 ∷ 60 ∷ 0  -- 61: notEmpty in HardwareModules.hwSerialEntries
+    ∷ 7 ∷ 0x00 ∷ 60 ∷ 0  -- 61: not_empty in HardwareModules.hwSerialEntries
     ∷ 3 ∷ 0x30 ∷ 61 ∷ 1  -- 62: required in HardwareModules.hwSerialEntries
     ∷ 3 ∷ 0x06 ∷ 0 ∷ 62  -- 63: required in HardwareModules.hwType
     ∷ 2 ∷ 0x30 ∷ 63 ∷ 1  -- 64: optional in TargetIdentifier.hwModules
     ∷ 6 ∷ 0x00 ∷ 64 ∷ 0  -- 65: many in TargetIdentifier.hwModules
-    ∷ 7 ∷ 0x00 ∷ 65 ∷ 0  -- 66: notEmpty in TargetIdentifier.hwModules
+    ∷ 7 ∷ 0x00 ∷ 65 ∷ 0  -- 66: not_empty in TargetIdentifier.hwModules
     ∷ 2 ∷ 0xA5 ∷ 15 ∷ 1  -- 67: optional in TargetIdentifier.otherName
     ∷ 2 ∷ 0x84 ∷ 0 ∷ 67  -- 68: optional in TargetIdentifier.uri
     ∷ 2 ∷ 0x83 ∷ 55 ∷ 68  -- 69: optional in TargetIdentifier.allModules
     ∷ 2 ∷ 0xA2 ∷ 54 ∷ 69  -- 70: optional in TargetIdentifier.communities
     ∷ 2 ∷ 0xA1 ∷ 66 ∷ 70  -- 71: optional in TargetIdentifier.hwModules
-    ∷ 13 ∷ 0x00 ∷ 0 ∷ 0  -- 72: seqNumber in TAMPMsgRef.seqNum, TAMPSequenceNumber.seqNumber
+    ∷ 13 ∷ 0x00 ∷ 0 ∷ 0  -- 72: seq_number in TAMPMsgRef.seqNum, TAMPSequenceNumber.seqNumber
     ∷ 3 ∷ 0x02 ∷ 72 ∷ 1  -- 73: required in TAMPMsgRef.seqNum, TAMPSequenceNumber.seqNumber
     ∷ 4 ∷ 0x00 ∷ 71 ∷ 73  -- 74: one in TAMPMsgRef.target
-    ∷ 12 ∷ 0x02 ∷ 0 ∷ 0  -- 75: integerBut in TAMPStatusQuery.version, TAMPUpdate.version, TAMPCommunityUpdate.version, SequenceNumberAdjust.version
+    ∷ 12 ∷ 0x02 ∷ 0 ∷ 0  -- 75: integer_but in TAMPStatusQuery.version, TAMPUpdate.version, TAMPCommunityUpdate.version, SequenceNumberAdjust.version
     ∷ 10 ∷ 0x01 ∷ 0 ∷ 0  -- 76: equals in TAMPStatusQuery.terse, TAMPUpdate.terse, TAMPCommunityUpdate.terse, ContentTypeConstraint.canSource
     ∷ 3 ∷ 0x30 ∷ 74 ∷ 1  -- 77: required in TAMPStatusQuery.query, SequenceNumberAdjust.msgRef
     ∷ 2 ∷ 0x81 ∷ 76 ∷ 77  -- 78: optional in TAMPStatusQuery.terse
@@ -109,9 +109,9 @@ rows =
     ∷ 3 ∷ 0x04 ∷ 0 ∷ 73  -- 93: required in TAMPSequenceNumber.keyId
     ∷ 2 ∷ 0x30 ∷ 93 ∷ 1  -- 94: optional in TAMPSequenceNumbers, TAMPUpdate.tampSeqNumbers
     ∷ 6 ∷ 0x00 ∷ 94 ∷ 0  -- 95: many in TAMPSequenceNumbers, TAMPUpdate.tampSeqNumbers
-    ∷ 7 ∷ 0x00 ∷ 95 ∷ 0  -- 96: notEmpty in TAMPSequenceNumbers, TAMPUpdate.tampSeqNumbers
+    ∷ 7 ∷ 0x00 ∷ 95 ∷ 0  -- 96: not_empty in TAMPSequenceNumbers, TAMPUpdate.tampSeqNumbers
     ∷ 6 ∷ 0x00 ∷ 92 ∷ 0  -- 97: many in TAMPUpdate.updates
-    ∷ 7 ∷ 0x00 ∷ 97 ∷ 0  -- 98: notEmpty in TAMPUpdate.updates
+    ∷ 7 ∷ 0x00 ∷ 97 ∷ 0  -- 98: not_empty in TAMPUpdate.updates
     ∷ 2 ∷ 0xA2 ∷ 96 ∷ 1  -- 99: optional in TAMPUpdate.tampSeqNumbers
     ∷ 3 ∷ 0x30 ∷ 98 ∷ 99  -- 100: required in TAMPUpdate.updates
     ∷ 3 ∷ 0x30 ∷ 74 ∷ 100  -- 101: required in TAMPUpdate.msgRef
@@ -120,7 +120,7 @@ rows =
     ∷ 3 ∷ 0x30 ∷ 103 ∷ 1  -- 104: required in TAMPUpdate
     ∷ 2 ∷ 0xA2 ∷ 54 ∷ 1  -- 105: optional in CommunityUpdates.add
     ∷ 2 ∷ 0xA1 ∷ 54 ∷ 105  -- 106: optional in CommunityUpdates.remove
-    ∷ 7 ∷ 0x00 ∷ 106 ∷ 0  -- 107: notEmpty in CommunityUpdates
+    ∷ 7 ∷ 0x00 ∷ 106 ∷ 0  -- 107: not_empty in CommunityUpdates
     ∷ 3 ∷ 0x30 ∷ 107 ∷ 1  -- 108: required in TAMPCommunityUpdate.updates
     ∷ 3 ∷ 0x30 ∷ 74 ∷ 108  -- 109: required in TAMPCommunityUpdate.msgRef
     ∷ 2 ∷ 0x81 ∷ 76 ∷ 109  -- 110: optional in TAMPCommunityUpdate.terse
@@ -128,18 +128,18 @@ rows =
     ∷ 3 ∷ 0x30 ∷ 111 ∷ 1  -- 112: required in TAMPCommunityUpdate
     ∷ 2 ∷ 0x80 ∷ 75 ∷ 77  -- 113: optional in SequenceNumberAdjust.version
     ∷ 3 ∷ 0x30 ∷ 113 ∷ 1  -- 114: required in SequenceNumberAdjust
-    ∷ 7 ∷ 0x00 ∷ 0 ∷ 0  -- 115: notEmpty in AttrConstraint.attrValues
+    ∷ 7 ∷ 0x00 ∷ 0 ∷ 0  -- 115: not_empty in AttrConstraint.attrValues
     ∷ 3 ∷ 0x31 ∷ 115 ∷ 1  -- 116: required in AttrConstraint.attrValues
     ∷ 3 ∷ 0x06 ∷ 0 ∷ 116  -- 117: required in AttrConstraint.attrType
     ∷ 2 ∷ 0x30 ∷ 117 ∷ 1  -- 118: optional in AttrConstraintList, ContentTypeConstraint.attrConstraints
     ∷ 6 ∷ 0x00 ∷ 118 ∷ 0  -- 119: many in AttrConstraintList, ContentTypeConstraint.attrConstraints
-    ∷ 7 ∷ 0x00 ∷ 119 ∷ 0  -- 120: notEmpty in AttrConstraintList, ContentTypeConstraint.attrConstraints
+    ∷ 7 ∷ 0x00 ∷ 119 ∷ 0  -- 120: not_empty in AttrConstraintList, ContentTypeConstraint.attrConstraints
     ∷ 2 ∷ 0x30 ∷ 120 ∷ 1  -- 121: optional in ContentTypeConstraint.attrConstraints
     ∷ 2 ∷ 0x0A ∷ 76 ∷ 121  -- 122: optional in ContentTypeConstraint.canSource
     ∷ 3 ∷ 0x06 ∷ 0 ∷ 122  -- 123: required in ContentTypeConstraint.contentType
     ∷ 2 ∷ 0x30 ∷ 123 ∷ 1  -- 124: optional in CMSContentConstraints
     ∷ 6 ∷ 0x00 ∷ 124 ∷ 0  -- 125: many in CMSContentConstraints
-    ∷ 7 ∷ 0x00 ∷ 125 ∷ 0  -- 126: notEmpty in CMSContentConstraints
+    ∷ 7 ∷ 0x00 ∷ 125 ∷ 0  -- 126: not_empty in CMSContentConstraints
     ∷ 3 ∷ 0x30 ∷ 126 ∷ 1  -- 127: required in CMSContentConstraints
     ∷ 3 ∷ 0x30 ∷ 28 ∷ 1  -- 128: required in OneSignedData
     ∷ 2 ∷ 0x06 ∷ 17 ∷ 1  -- 129: optional in Attribute.attrValues

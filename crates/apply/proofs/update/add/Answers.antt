@@ -24,17 +24,17 @@ returns-in-At c =
 pub slice_bounds-anchor_count-end-2 : goal.slice_bounds-anchor_count-end-2
 slice_bounds-anchor_count-end-2 c = sym (length-take-le _ _ c.requires.0.holds.inside)
 
-pub returns-then-anchor_count-ge-MAX_ANCHORS : goal.returns-then-anchor_count-ge-MAX_ANCHORS
-returns-then-anchor_count-ge-MAX_ANCHORS c =
-    add_full _ _ _ _ c.judged-found.ensures c.if-found-ne0.false c.is_within_signer.ensures (not-false _ c.if-not-is_within_signer.false-raw) c.public_key.ensures c.find_anchor.ensures c.in_default.is c.anchor_count.ensures c.if-anchor_count-ge-MAX_ANCHORS.true
+pub returns-then-is_full : goal.returns-then-is_full
+returns-then-is_full c =
+    add_full _ _ _ _ c.judged-found.ensures c.if-found-ne0.false c.is_within_signer.ensures (not-false _ c.if-not-is_within_signer.false-raw) c.public_key.ensures c.find_anchor.ensures c.in_default.is c.anchor_count-is_full.ensures c.if-is_full.true
 
 pub append-n-requires : goal.append-n-requires
 append-n-requires c =
-    add_grows _ _ _ _ c.judged-found.ensures c.if-found-ne0.false c.is_within_signer.ensures (not-false _ c.if-not-is_within_signer.false-raw) c.public_key.ensures c.find_anchor.ensures c.in_default.is c.anchor_count.ensures c.if-anchor_count-ge-MAX_ANCHORS.false c.requires.1 c.requires.0
+    add_grows _ _ _ _ c.judged-found.ensures c.if-found-ne0.false c.is_within_signer.ensures (not-false _ c.if-not-is_within_signer.false-raw) c.public_key.ensures c.find_anchor.ensures c.in_default.is c.anchor_count-is_full.ensures c.if-is_full.false c.requires.1 c.requires.0
 
 pub returns : goal.returns
 returns c =
-    add_appends _ _ _ _ c.judged-found.ensures c.if-found-ne0.false c.is_within_signer.ensures (not-false _ c.if-not-is_within_signer.false-raw) c.public_key.ensures c.find_anchor.ensures c.in_default.is c.anchor_count.ensures c.if-anchor_count-ge-MAX_ANCHORS.false c.requires.1 c.append-n.ensures
+    add_appends _ _ _ _ c.judged-found.ensures c.if-found-ne0.false c.is_within_signer.ensures (not-false _ c.if-not-is_within_signer.false-raw) c.public_key.ensures c.find_anchor.ensures c.in_default.is c.anchor_count-is_full.ensures c.if-is_full.false c.requires.1 c.append-n.ensures
 
 pub returns-then-found-ne0 : goal.returns-then-found-ne0
 returns-then-found-ne0 c = add_judged _ _ _ _ c.judged-found.ensures c.if-found-ne0.true

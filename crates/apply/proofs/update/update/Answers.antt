@@ -10,11 +10,11 @@ use Rattle.accept.specs.Contract.Signer.{signer_rights}
 use Rattle.apply.proofs.Signing.{written_holds, written_scratch, held_short, counted_entries, many_effects, many_codes, few_effects, few_codes}
 use Rattle.apply.proofs.update.update.Goals as goal
 
-pub returns-then-count-gt-MAX_UPDATES : goal.returns-then-count-gt-MAX_UPDATES
-returns-then-count-gt-MAX_UPDATES c =
+pub returns-then-is_over : goal.returns-then-is_over
+returns-then-is_over c =
     let a = c.args in
     let n = counted_entries a.message.now a.q c.entry_count-count.ensures in
-    let many : max_updates < length (entries_in a.message.now a.q.updates) = omega (arith, c.if-count-gt-MAX_UPDATES.true) in
+    let many : max_updates < length (entries_in a.message.now a.q.updates) = omega (arith, c.if-is_over.true) in
     let rights = signer_rights a.image.now a.w in
     let moved = c.move_number.ensures in (
       many_effects a.message.now a.q rights a.w a.image.now many moved.0 moved.1,
@@ -30,7 +30,7 @@ update_scratch-end-requires c =
       asked = p.1;
       update = p.2;
       scratch = written_scratch (c.renumber-len.ensures p.0.store p.0.decodes) (omega arith);
-      few = omega (arith, c.if-count-gt-MAX_UPDATES.false);
+      few = omega (arith, c.if-is_over.false);
       space = p.3;
     }
 
@@ -59,7 +59,7 @@ pub returns : goal.returns
 returns c =
     let a = c.args in
     let n = counted_entries a.message.now a.q c.entry_count-count.ensures in
-    let few : length (entries_in a.message.now a.q.updates) ≤ max_updates = omega (arith, c.if-count-gt-MAX_UPDATES.false) in
+    let few : length (entries_in a.message.now a.q.updates) ≤ max_updates = omega (arith, c.if-is_over.false) in
     let rights = signer_rights a.image.now a.w in
     let done = c.update_scratch-end.ensures in (
       few_effects a.message.now a.q rights a.w a.image.now few c.renumber-len.ensures (omega arith) done c.copy_to.ensures,
