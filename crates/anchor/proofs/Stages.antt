@@ -6,7 +6,7 @@ use mathlib.Core.List.{List, [], ◌∷◌, map}
 use mathlib.Core.Path.{◌≡◌, refl, sym, ap, ap₂, ◌∙◌}
 use lib.ListN.{length, drop}
 use lib.Dec.{leb, ltb, eqb}
-use borrow.Author.Tests.{ltb-true, ltb-false, le-leb, lt-leb}
+use borrow.Author.Tests.{ltb-true, ltb-false, le-ltb, le-leb, lt-leb}
 use Rattle.octets.specs.declared.Status.{Status}
 use Rattle.octets.specs.Status.{success}
 use Rattle.octets.specs.Limits.{max_anchor_octets, max_key_identifier, max_depth}
@@ -206,3 +206,49 @@ RightsPast n t k r = From (judge_rights t k r) (drop n (rights_stages t k r)) ju
 pub rights_start : (t k : List ℕ) (r : Rights) → RightsPast 0 t k r
 unfolding first_of
 rights_start t k r = record { is = refl }
+
+-- .. as the code tests them, one after the other
+
+module _ (t : List ℕ) {info : Element} (i : info ≡ root t) {v : Element} (v_is : v ≡ field 0x02 t info) (no_version : v.valid ≡ false) where
+  pub past_version : Past 1 t
+  past_version = passed (start t) (version_is t i v_is ∙ no_version)
+
+  module _ {id path : Element} (id_is : id ≡ field 0x04 t info) (path_here : path ≡ field_after 0x30 t info id) (no_path : path.valid ≡ false) where
+    pub past_path : Past 2 t
+    past_path = passed past_version (path_is t i id_is path_here ∙ no_path)
+
+    module _ {list : Element} (l : list ≡ extension_list t) {d : Bool} (d_is : d ≡ distinct (map (key_of Types t) (inside t list))) (once : not d ≡ false) where
+      pub past_repeated : Past 3 t
+      past_repeated = passed past_path (repeated_extension_is t l d_is ∙ once)
+
+      module _ {b : Bool} (b_is : b ≡ any_of (is_other_critical t) (inside t list)) (none : b ≡ false) where
+        pub past_critical : Past 4 t
+        past_critical = passed past_repeated (critical_extension_is t l b_is ∙ none)
+
+module _ (t k : List ℕ) (r : Rights) {f : Faults} (h : f ≡ rights_faults r) (once : f.repeated ≡ false) where
+  pub past_repeats : RightsPast 1 t k r
+  past_repeats = passed (rights_start t k r) (repeated_is r h ∙ once)
+
+  module _ (like : f.unlike ≡ false) where
+    pub past_unlike : RightsPast 2 t k r
+    past_unlike = passed past_repeats (unlike_is r h ∙ like)
+
+    module _ (short : length t ≤ max_anchor_octets) where
+      pub past_octets : RightsPast 3 t k r
+      past_octets = passed past_unlike (le-ltb max_anchor_octets (length t) short)
+
+      module _ (fits : identifier_outside k ≡ false) where
+        pub past_identifier : RightsPast 4 t k r
+        past_identifier = passed past_octets fits
+
+        module _ (few_entries : f.entries ≡ false) where
+          pub past_entries : RightsPast 5 t k r
+          past_entries = passed past_identifier (entries_is r h ∙ few_entries)
+
+          module _ (few_attributes : f.attributes ≡ false) where
+            pub past_attributes : RightsPast 6 t k r
+            past_attributes = passed past_entries (attributes_is r h ∙ few_attributes)
+
+            module _ (few_values : f.values ≡ false) where
+              pub past_values : RightsPast 7 t k r
+              past_values = passed past_attributes (values_is r h ∙ few_values)

@@ -1,69 +1,34 @@
--- `tamp::tamp_call` meets its contract. Assumes nothing.
+-- The house refusals as they are tested; then what acceptance decided, and what the response left.
 use native.Mathlib.Omega.{arith}
 use mathlib.Core.Path.{sym, ◌∙◌}
-use Rattle.tamp.proofs.Chain.{Housed, housed, call_refused, call-answer}
+use Rattle.tamp.proofs.Chain.{housed, call_refused, call-answer}
 use Rattle.tamp.proofs.Signers.{known, answered_by}
 use Rattle.tamp.proofs.tamp_call.Goals as goal
 
 pub returns-then-refuses : goal.returns-then-refuses
 returns-then-refuses c =
-    let house : let a = c.args in Housed a.message.now a.image.now a.verdict.now a.reply.now a.next.now c.or_if-status.result = housed
-    _
-    _
-    _
-    _
-    _
-    c.is_image.ensures
-    c.is_verdict.ensures
-    c.is_small.ensures
-    c.or_if.ensures
-    c.or_if-2.ensures
-    c.or_if-3.ensures
-    c.or_if-status.ensures in
-    call_refused _ _ _ _ _ (house) (sym c.refuses.ensures ∙ c.if-refuses.true) c.refusal.ensures
+    let house =
+    housed _ _ _ _ _ c.is_image.ensures c.is_verdict.ensures c.is_small.ensures c.or_if.ensures c.or_if-2.ensures c.or_if-3.ensures c.or_if-status.ensures
+    in
+    call_refused _ _ _ _ _ house (sym c.refuses.ensures ∙ c.if-refuses.true) c.refusal.ensures
 
 pub respond-requires : goal.respond-requires
 respond-requires c =
-    let house : let a = c.args in Housed a.message.now a.image.now a.verdict.now a.reply.now a.next.now c.or_if-status.result = housed
-    _
-    _
-    _
-    _
-    _
-    c.is_image.ensures
-    c.is_verdict.ensures
-    c.is_small.ensures
-    c.or_if.ensures
-    c.or_if-2.ensures
-    c.or_if-3.ensures
-    c.or_if-status.ensures in
+    let house =
+    housed _ _ _ _ _ c.is_image.ensures c.is_verdict.ensures c.is_small.ensures c.or_if.ensures c.or_if-2.ensures c.or_if-3.ensures c.or_if-status.ensures
+    in
     let a = c.args in
-    let g = (house).passes (sym c.refuses.ensures ∙ c.if-refuses.false) in (
+    let g = house.passes (sym c.refuses.ensures ∙ c.if-refuses.false) in (
       g.0,
       g.1,
-      known a.message.now a.image.now a.verdict.now
-          (λ i. omega (arith, c.shared_slice_known-1.given i))
-          (λ i. omega (arith, c.shared_slice_known-2-1.given i))
-          c.judge.ensures
-          g.0
-          g.1,
+      known a.message.now a.image.now a.verdict.now (λ i. omega (arith, c.type_inv.message i)) (λ i. omega (arith, c.type_inv.image i)) c.judge.ensures g.0 g.1,
     )
 
 pub returns : goal.returns
 returns c =
-    let house : let a = c.args in Housed a.message.now a.image.now a.verdict.now a.reply.now a.next.now c.or_if-status.result = housed
-    _
-    _
-    _
-    _
-    _
-    c.is_image.ensures
-    c.is_verdict.ensures
-    c.is_small.ensures
-    c.or_if.ensures
-    c.or_if-2.ensures
-    c.or_if-3.ensures
-    c.or_if-status.ensures in
+    let house =
+    housed _ _ _ _ _ c.is_image.ensures c.is_verdict.ensures c.is_small.ensures c.or_if.ensures c.or_if-2.ensures c.or_if-3.ensures c.or_if-status.ensures
+    in
     let a = c.args in
-    call-answer _ _ _ _ _ (house) (sym c.refuses.ensures ∙ c.if-refuses.false)
+    call-answer _ _ _ _ _ house (sym c.refuses.ensures ∙ c.if-refuses.false)
     (answered_by a.message.now a.image.now a.verdict.now c.judge.ensures a.reply.now a.next.now c.respond.ensures)
