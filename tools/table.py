@@ -3,15 +3,18 @@
 of crates/syntax, and then `rt fmt` in crates/syntax.
 
 It reads those files and writes src/table.rt (the constant array), specs/Contract/Table.antt (the same rows as data) and proofs/Ties.antt (the rows
-of the named types and of the forms stand for them). A row is four octets: kind, tag or argument, body's row, next row; it names only
-rows above it, and equal rows are one. What a kind stands for is said by specs/Contract/Rows.antt.
+of the named types and of the forms stand for them). A row names only rows above it, and equal rows are one. What a row stands for is said by
+specs/Contract/Rows.antt.
 """
 import re
 import common
 
 CRATE = common.path('crates', 'syntax', '')
-KINDS = ['free', 'end', 'optional', 'required', 'one', 'any_optional', 'many']
-RULES = ['not_empty', 'size_to', 'empty', 'equals', 'equals given', 'integer_but', 'seq_number']
+FIELDS = {'optional': 'Optional', 'required': 'Required', 'one': 'One', 'any_optional': 'AnyOptional'}
+RULES = {'not_empty': 'NotEmpty', 'size_to': 'SizeTo', 'empty': 'Empty', 'equals': 'Equals', 'equals given': 'EqualsGiven', 'integer_but': 'IntegerBut',
+         'seq_number': 'SeqNumber'}
+WITH_NUMBER = ['size_to', 'integer_but']
+WITH_OCTET = ['equals']
 
 
 # -- reading
@@ -142,7 +145,7 @@ class Table:
             if known or not type:
                 type, fields, i = node.type, known or [], 0
         spine, n = node, 0
-        while spine and spine.kind in ('optional', 'required', 'one', 'any_optional'):
+        while spine and spine.kind in FIELDS:
             spine, n = spine.next, n + 1
         if fields and i == 0 and n != len(fields):
             # the element around the fields
@@ -151,8 +154,7 @@ class Table:
             label = type + ('.' + fields[i] if i < len(fields) else '')
             body = self.add(node.body, label, [], 0)
             following = self.add(node.next, type, fields, i + 1)
-        kind = KINDS.index(node.kind) if node.kind in KINDS else len(KINDS) + RULES.index(node.kind)
-        row = (kind, node.arg, body, following)
+        row = (node.kind, node.arg, body, following)
         if row not in self.number:
             assert len(self.rows) < 256, 'a row number is one octet'
             self.number[row] = len(self.rows)
@@ -169,8 +171,24 @@ class Table:
         return f'{n}: {kind}' + (' in ' + ', '.join(labels) if n > 1 else '')
 
 
-def shown(row):
-    return [str(row[0]), f'0x{row[1]:02X}', str(row[2]), str(row[3])]
+def shown(row, call, names):
+    """a row as a value: call writes a variant with its arguments, names is what stands before a name of a field or of a rule"""
+    kind, arg, body, following = row
+    if kind in FIELDS:
+        return call('Field', [names[0] + FIELDS[kind], f'0x{arg:02X}', body, following])
+    if kind in RULES:
+        number = [str(arg)] if kind in WITH_NUMBER else [f'0x{arg:02X}'] if kind in WITH_OCTET else []
+        return call('Obeys', [call(RULES[kind], number, names[1]), body])
+    return call(kind.capitalize(), [body] if kind == 'many' else [])
+
+
+def in_code(name, arguments, before='Row::'):
+    return before + name + ('(' + ', '.join(str(a) for a in arguments) + ')' if arguments else '')
+
+
+def in_spec(name, arguments, before='row.'):
+    whole = ' '.join([before + name] + [str(a) for a in arguments])
+    return f'({whole})' if arguments and before != 'row.' else whole
 
 
 def main():
@@ -196,13 +214,13 @@ def main():
     def constant(name):
         return re.sub(r'(?<=[a-z])(?=[A-Z])|(?<=[A-Z])(?=[A-Z][a-z])', '_', name.split('.')[-1]).upper()
 
-    rt = [f'// {note}', "// A row is four octets: kind, tag or argument, body's row, next row. specs/Contract/Rows.antt says what a row stands for.",
-          f'pub type Table = [u8; {4 * count}];', '', 'pub const ROWS: Table = [']
+    rt = [f'// {note}', 'use crate::row::{Kind, Row, Rule};', '', '// specs/Contract/Rows.antt says what a row stands for.',
+          f'pub type Table = [Row; {count}];', '', 'pub static ROWS: Table = [']
     for n, row in enumerate(table.rows):
-        rt += [f'    // {table.comment(n)}', '    ' + ', '.join(shown(row)) + ',']
+        rt += [f'    // {table.comment(n)}', '    ' + shown(row, in_code, ['Kind::', 'Rule::']) + ',']
     rt += ['];', '', '// The row of each form.']
     for name, n in [(constant(p), n) for p, n in form_rows + message_rows] + [(constant(p) + '_ATTRIBUTE', n) for p, n in attribute_rows]:
-        rt += [f'pub const {name}: usize = {n};', '']
+        rt += [f'pub const {name}: u8 = {n};', '']
     rt.pop()
     write('src/table.rt', rt)
 
@@ -213,11 +231,15 @@ def main():
                 'use Rattle.syntax.specs.declared.Form.TheVariants as form',
                 'use Rattle.syntax.specs.declared.AttributeForm.{AttributeForm}',
                 'use Rattle.syntax.specs.declared.AttributeForm.TheVariants as attribute']
+    typed = ['use Rattle.syntax.specs.declared.row.Row.{Row}',
+             'use Rattle.syntax.specs.declared.row.Row.TheVariants as row',
+             'use Rattle.syntax.specs.declared.row.Kind.TheVariants as kind',
+             'use Rattle.syntax.specs.declared.row.Rule.TheVariants as rule']
     spec = [f'-- {note}', '-- The rows of src/table.rt as data, and the row of each form.',
-            'use Rattle.std.specs.Prelude.{ℕ, List, [], ◌∷◌}'] + declared
-    spec += ['', 'abbrev pub count : ℕ', f'count = {count}', '', 'unfoldable pub rows : List ℕ', 'rows =']
+            'use Rattle.std.specs.Prelude.{ℕ, List, [], ◌∷◌}'] + typed + declared
+    spec += ['', 'abbrev pub count : ℕ', f'count = {count}', '', 'unfoldable pub rows : List Row', 'rows =']
     for n, row in enumerate(table.rows):
-        spec.append('    ' + ('∷ ' if n else '') + ' ∷ '.join(shown(row)) + f'  -- {table.comment(n)}')
+        spec.append('    ' + ('∷ ' if n else '') + shown(row, in_spec, ['kind.', 'rule.']) + f'  -- {table.comment(n)}')
     spec += ['    ∷ []', '', 'abbrev pub message_row : TampType → ℕ']
     spec += [f'message_row {p} = {n}' for p, n in message_rows]
     spec += ['', 'abbrev pub form_row : Form → ℕ']
@@ -234,8 +256,8 @@ def main():
     proof += ['use Rattle.syntax.specs.Asn.{' + ', '.join(part) + '}' for part in chunks(['id_signed_data'] + names, 6)]
     proof += ['use Rattle.syntax.specs.Types.{syntax_of}', 'use Rattle.syntax.specs.Contract.Forms.{form_syntax, attribute_syntax}',
               'use Rattle.syntax.specs.Contract.Table.{rows, message_row, form_row, attribute_row}',
-              'use Rattle.syntax.specs.Contract.Rows.{rule_of, row_syntax, grown, grammar_of}', '']
-    opened = 'unfolding rows rule_of row_syntax grown'
+              'use Rattle.syntax.specs.Contract.Rows.{rule_of, field_syntax, row_syntax, grown, grammar_of}', '']
+    opened = 'unfolding rows rule_of field_syntax row_syntax grown'
     proof += ['types_are : (o : List ℕ) → map (grammar_of o)', '    (' + ' ∷ '.join(str(n) for _, n in ties) + ' ∷ [])', '    ≡']
     proof += ['    ' + ('∷ ' if i else '') + ' ∷ '.join(part) for i, part in enumerate(chunks(names, 6))]
     proof += ['    ∷ []', opened, 'types_are o = refl', '']

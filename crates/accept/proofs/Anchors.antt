@@ -1,4 +1,7 @@
 -- The signer's position, and what stands there in the store that octets are read as.
+use Rattle.std.specs.Prelude.{Result, Ok, Err}
+use Rattle.store.specs.declared.NoSigner.TheVariants.{Unverified, Unknown}
+use Rattle.store.specs.declared.NoSigner.{NoSigner}
 use Prim.Native.Nat.{ℕ, zero, suc, ◌+◌, ◌<◌}
 use native.Mathlib.Omega.{arith}
 use mathlib.Core.List.{List, [], ◌∷◌, map}
@@ -12,13 +15,12 @@ use Rattle.rights.specs.Rights.{nothing}
 use Rattle.rights.specs.Constraints.{constraints_rights}
 use Rattle.anchor.specs.Info.{rights_of}
 use Rattle.anchor.proofs.Rights.{value_rights}
-use Rattle.store.specs.declared.FoundSigner.{FoundSigner}
-use Rattle.store.specs.declared.FoundSigner.TheVariants.{At, Unverified, Unknown}
 use Rattle.store.specs.Store.{Anchor, Store, anchors, identifier_of, identifiers}
 use Rattle.store.specs.Records.{records_of}
 use Rattle.store.specs.Contract.Parts.{anchor_count, first_record, record_at, number_in, anchor_in}
 use Rattle.store.specs.Signer.{signer_from, signer}
-use Rattle.store.proofs.Walk.{records_of_lem, signer-here, signer_unverified, signer-other}
+use Rattle.store.proofs.Walk.{records_of_lem}
+use Rattle.protocol.proofs.Signers.{first_here, first_unverified, first_other}
 use Rattle.store.proofs.Parts.{records_count, record_at_position}
 use Rattle.protocol.specs.Acceptance.{rights_at, number_at}
 use Rattle.protocol.proofs.Lists.{get_d_made}
@@ -28,35 +30,26 @@ use Rattle.accept.specs.Contract.Judged.{store_in}
 
 -- the signer's position is that of an anchor
 module _ (verdict wanted : List ℕ) (j : ℕ) where
-  below-from : (i : ℕ) (ids : List (List ℕ)) (missed : FoundSigner) → (missed ≡ At j → ⊥) → signer_from i ids verdict wanted missed ≡ At j → j < i + length ids
+  below-from : (i : ℕ) (ids : List (List ℕ)) (missed : Result ℕ NoSigner) → (missed ≡ Ok j → ⊥) → signer_from i ids verdict wanted missed ≡ Ok j → j < i + length ids
   unfolding signer_from
   below-from i [] missed n e = absurd (n e)
   below-from i (k ∷ ids) missed n e =
       by_test (same k wanted)
       (λ t.
       by_test (eqb (octet verdict i) 1)
-      (λ u. let z : i ≡ j = at_same (sym (signer-here i k ids verdict wanted missed t u) ∙ e) in omega arith)
+      (λ u. let h = sym (first_here i k ids verdict wanted missed t u) ∙ e in let z : i ≡ j = cc in omega arith)
       (λ u.
-      let h = below-from (suc i) ids Unverified unverified≢at (sym (signer_unverified i k ids verdict wanted missed t u) ∙ e) in
+      let h = below-from (suc i) ids (Err Unverified) (λ h. cc) (sym (first_unverified i k ids verdict wanted missed t u) ∙ e) in
       omega arith))
       (λ t.
-      let h = below-from (suc i) ids missed n (sym (signer-other i k ids verdict wanted missed t) ∙ e) in
+      let h = below-from (suc i) ids missed n (sym (first_other i k ids verdict wanted missed t) ∙ e) in
       omega arith)
-    where
-      at_same : {i : ℕ} → At i ≡ At j → i ≡ j
-      at_same e = cc
 
-      unverified≢at : Unverified ≡ At j → ⊥
-      unverified≢at e = let z : ◌≡◌ {A = ℕ} 0 1 = cc in omega arith
-
-  pub signer-below : (ids : List (List ℕ)) → signer ids verdict wanted ≡ At j → j < length ids
+  pub signer-below : (ids : List (List ℕ)) → signer ids verdict wanted ≡ Ok j → j < length ids
   unfolding signer
-  signer-below ids e = let h = below-from 0 ids Unknown unknown≢at e in omega arith
-    where
-      unknown≢at : Unknown ≡ At j → ⊥
-      unknown≢at e = let z : ◌≡◌ {A = ℕ} 0 1 = cc in omega arith
+  signer-below ids e = let h = below-from 0 ids (Err Unknown) (λ h. cc) e in omega arith
 
-  pub signer_anchor : (σ : Store) → signer (identifiers σ) verdict wanted ≡ At j → j < length (anchors σ)
+  pub signer_anchor : (σ : Store) → signer (identifiers σ) verdict wanted ≡ Ok j → j < length (anchors σ)
   signer_anchor σ e = omega (arith, signer-below (identifiers σ) e, length-map (anchors σ) identifier_of)
 
 -- the first record is the apex

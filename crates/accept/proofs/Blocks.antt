@@ -1,12 +1,12 @@
 -- 01, Target: "bound it as big-endian numbers": of octet strings with one length, the order octet by octet is the order of the numbers that they write.
 use Prim.Native.Nat.{ℕ, suc, ◌+◌, ◌*◌, ◌<◌}
 use native.Mathlib.Omega.{arith}
-use mathlib.Core.Bool.{Bool, true, false, ◌&&◌}
+use mathlib.Core.Bool.{◌&&◌}
 use mathlib.Core.List.{List, [], ◌∷◌}
-use mathlib.Core.Path.{◌≡◌, refl, sym, ◌∙◌}
+use mathlib.Core.Path.{◌≡◌, sym}
 use lib.ListN.{length}
 use lib.Dec.{eqb, leb, ltb}
-use borrow.Author.Tests.{ltb-true, ltb-false, eqb-true, eqb-false, le-leb, lt-leb, eq-eqb, ne_eqb}
+use borrow.Author.Tests.{ltb-true, ltb-false, eqb-true, eqb-false, le-leb, lt-leb}
 use Rattle.octets.specs.Octets.{Octets, ordered}
 use Rattle.octets.specs.Number.{number_from, number}
 use Rattle.octets.proofs.Lists.{by_test}
@@ -49,36 +49,14 @@ order_from n (x ∷ s) (y ∷ t) o p e =
 pub order_number : (s t : List ℕ) → Octets s → Octets t → length s ≡ length t → leb (number s) (number t) ≡ ordered s t
 order_number s t o p e = order_from 0 s t o p e
 
--- four tests in a row
-
-second_fails : (a c d : Bool) → a && false && c && d ≡ false
-second_fails true c d = refl
-second_fails false c d = refl
-
-third_fails : (a b d : Bool) → a && b && false && d ≡ false
-third_fails true true d = refl
-third_fails true false d = refl
-third_fails false true d = refl
-third_fails false false d = refl
-
-module _ (serial low high : List ℕ) where
-  pub block_low : (length low ≡ length serial → ⊥) → block_names serial low high ≡ false
-  unfolding block_names
-  block_low h = rw (ne_eqb _ _ h)
-
-  pub block_high : (length high ≡ length serial → ⊥) → block_names serial low high ≡ false
-  unfolding block_names
-  block_high h = rw (ne_eqb _ _ h) (second_fails (eqb (length low) (length serial)) (leb (number low) (number serial)) (leb (number serial) (number high)))
-
-  module _ (o : Octets serial) (p : Octets low) (q : Octets high) (l : length low ≡ length serial) (h : length high ≡ length serial) where
-    pub block_below : ordered low serial ≡ false → block_names serial low high ≡ false
-    unfolding block_names
-    block_below n =
-        rw (order_number low serial p o l ∙ n)
-        (third_fails (eqb (length low) (length serial)) (eqb (length high) (length serial)) (leb (number serial) (number high)))
-
-    pub block_up_to : ordered low serial ≡ true → block_names serial low high ≡ ordered serial high
-    unfolding block_names
-    block_up_to n =
-        rw (eq-eqb (length low) (length serial) l, eq-eqb (length high) (length serial) h, order_number low serial p o l ∙ n)
-        (order_number serial high o q (sym h))
+-- so a block may be told by octets
+pub block_ordered : (serial low high : List ℕ) → Octets serial → Octets low → Octets high
+    → block_names serial low high ≡ eqb (length low) (length serial) && eqb (length high) (length serial) && ordered low serial && ordered serial high
+unfolding block_names
+block_ordered serial low high o p q =
+    by_test (eqb (length low) (length serial))
+    (λ l.
+    by_test (eqb (length high) (length serial))
+    (λ h. rw (l, h, order_number low serial p o (eqb-true _ _ l), order_number serial high o q (sym (eqb-true _ _ h))))
+    (λ h. rw (l, h)))
+    (λ l. rw l)

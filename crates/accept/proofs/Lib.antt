@@ -1,5 +1,5 @@
+pub mod Unfolded
 pub mod Anchors
 pub mod Rows
 pub mod OfStore
-pub mod Aims
 pub mod Blocks

@@ -1,5 +1,7 @@
 -- The faults of content constraints, gathered by the loops; and that they are the tests of Judge on the rights.
-use Prim.Native.Nat.{ℕ, suc, ◌-◌, ◌≤◌, ◌<◌}
+use Rattle.std.specs.Prelude.{is_some, slice_get}
+use Rattle.std.specs.List.{fold}
+use Prim.Native.Nat.{ℕ, zero, suc}
 use native.Mathlib.Omega.{arith}
 use mathlib.Core.Bool.{Bool, true, false, not, ◌&&◌, ◌||◌, or_assoc, or-false}
 use mathlib.Core.List.{List, [], ◌∷◌, map, map-map}
@@ -12,8 +14,7 @@ use Rattle.octets.specs.Lists.{all_of, any_of}
 use Rattle.octets.specs.Octets.{same, distinct}
 use Rattle.octets.proofs.Lists.{by_test, any_of-map}
 use Rattle.der.specs.declared.Element.{Element}
-use Rattle.der.specs.Element.{element_at, elements, root, encoding, contents, field, inside}
-use Rattle.der.specs.Contract.Reading.{next_at}
+use Rattle.der.specs.Element.{root, encoding, contents, field, inside}
 use Rattle.rights.specs.Rights.{Key, Constraints, Entry, Rights, any_content_type}
 use Rattle.rights.specs.Constraints.{attr_constraint, content_type_constraint, constraints_rights}
 use Rattle.anchor.specs.declared.faults.Faults.{Faults}
@@ -21,7 +22,6 @@ use Rattle.der.specs.declared.Compared.TheVariants.{Types, Encodings}
 use Rattle.anchor.specs.Judge.{types_in, repeated_constraint, any_content_type_unlike, over_entries, over_attributes, over_values, over_value_octets}
 use Rattle.der.specs.Keys.{key_of}
 use Rattle.anchor.specs.Contract.Faults.{no_faults, together, faults_in, attribute_faults, is_unlike, entry_faults, rights_faults}
-use Rattle.der.proofs.Loops.{loop_end, loop_turn}
 
 pub together_assoc : (a b c : Faults) → together (together a b) c ≡ together a (together b c)
 unfolding together
@@ -35,52 +35,43 @@ pub none-together : (a : Faults) → together no_faults a ≡ a
 unfolding together
 none-together a = refl
 
--- a loop that adds each member's faults to those that it has found
-module _ {A : Type 0} (f : A → Faults) (g : Element → A) (s : List ℕ) (at stop : ℕ) (found : Faults) {x : Faults}
-    (rest : together found (faults_in f (map g (elements s at stop))) ≡ x) where
-  pub faults_all : stop ≤ at → found ≡ x
-  unfolding faults_in
-  faults_all h = sym (together-none found) ∙ loop_end (λ l. together found (faults_in f (map g l))) s at stop rest h
+-- a fold that adds each member's faults to those that it begins with
+pub faults_folded : {A : Type 0} (f : A → Faults) (g : Element → A) (found : Faults) (es : List Element)
+    → fold (λ x e. together x (f (g e))) found es ≡ together found (faults_in f (map g es))
+unfolding faults_in
+faults_folded f g found [] = sym (together-none found)
+faults_folded f g found (e ∷ es) = faults_folded f g (together found (f (g e))) es ∙ together_assoc found (f (g e)) (faults_in f (map g es))
 
-  pub faults_more : at < stop → {e : Element} → e ≡ element_at s at stop → {y : Faults} → y ≡ f (g e) → {z : Faults} → z ≡ together found y
-      → {n : ℕ} → n ≡ next_at e stop → together z (faults_in f (map g (elements s n stop))) ≡ x
-  unfolding faults_in
-  faults_more l {e} q hy hz {n} m =
-      rw (hz, hy)
-      (together_assoc found (f (g e)) (faults_in f (map g (elements s n stop)))
-      ∙ loop_turn (λ l. together found (faults_in f (map g l))) s at stop rest l q m)
+-- more members than a number stand in a list where it has one at that place
+pub nth_stands : {A : Type 0} (l : List A) (n : ℕ) → is_some (slice_get l n) ≡ ltb n (length l)
+nth_stands [] n = sym (le-ltb n 0 (omega arith))
+nth_stands (x ∷ l) zero = sym (lt-ltb 0 (suc (length l)) (omega arith))
+nth_stands (x ∷ l) (suc n) =
+    nth_stands l n
+    ∙ by_test (ltb n (length l))
+    (λ t. let u = ltb-true n (length l) t in t ∙ sym (lt-ltb (suc n) (suc (length l)) (omega arith)))
+    (λ t. let u = ltb-false n (length l) t in t ∙ sym (le-ltb (suc n) (suc (length l)) (omega arith)))
 
--- a loop that counts down to more members than a number
-
-more_down : (k n : ℕ) → 0 < k → ltb k (suc n) ≡ ltb (k - 1) n
-more_down k n h =
-    by_test (ltb (k - 1) n)
-    (λ t. let u = ltb-true (k - 1) n t in lt-ltb k (suc n) (omega arith) ∙ sym t)
-    (λ t. let u = ltb-false (k - 1) n t in le-ltb k (suc n) (omega arith) ∙ sym t)
-
-module _ (k : ℕ) (s : List ℕ) (at stop : ℕ) {x : Bool} (rest : ltb k (length (elements s at stop)) ≡ x) where
-  pub more_none : stop ≤ at → false ≡ x
-  more_none h = sym (le-ltb k 0 (omega arith)) ∙ loop_end (λ l. ltb k (length l)) s at stop rest h
-
-  pub more_here : at < stop → k ≡ 0 → true ≡ x
-  more_here l z = sym (lt-ltb k _ (omega arith)) ∙ loop_turn (λ l. ltb k (length l)) s at stop rest l refl refl
-
-  pub more_later : at < stop → (k ≡ 0 → ⊥) → {e : Element} → e ≡ element_at s at stop → {n : ℕ} → n ≡ next_at e stop → ltb (k - 1) (length (elements s n stop)) ≡ x
-  more_later l z q m = sym (more_down k _ (omega arith)) ∙ loop_turn (λ l. ltb k (length l)) s at stop rest l q m
+-- what `Default` gives is no faults
+pub none_is : {f : Faults}
+    → (f.repeated ≡ false) × ((f.unlike ≡ false) × ((f.entries ≡ false) × ((f.attributes ≡ false) × ((f.values ≡ false) × (f.octets ≡ false)))))
+    → f ≡ no_faults
+none_is (a, (b, (c, (d, (e, f))))) = rw (a, b, c, d, e, f) refl
 
 map-length : {A B : Type 0} (f : A → B) (l : List A) → length (map f l) ≡ length l
 map-length f [] = refl
 map-length f (x ∷ l) = ap suc (map-length f l)
 
-pub attribute_faults_lem : (v : List ℕ) (a : Element) {x : Element} {d m o : Bool}
+pub attribute_faults_lem : (v : List ℕ) (a : Element) {x : Element} {d m o : Bool} {y : Faults}
     → x ≡ field 0x31 v a
     → d ≡ distinct (map (key_of Encodings v) (inside v x))
     → m ≡ ltb max_values (length (inside v x))
     → o ≡ any_of (λ e. ltb max_value_octets (length (encoding v e))) (inside v x)
-    → record { repeated = not d; unlike = false; entries = false; attributes = false; values = m; octets = o } ≡ attribute_faults (attr_constraint v a)
+    → y ≡ no_faults
+    → record y { repeated = not d; values = m; octets = o } ≡ attribute_faults (attr_constraint v a)
 unfolding attribute_faults attr_constraint key_of
-attribute_faults_lem v a {x} hx hd hm ho =
-    rw (hd, hm, ho, hx, map-length (encoding v) (inside v (field 0x31 v a)), any_of-map (λ v. ltb max_value_octets (length v)) (encoding v) (inside v (field 0x31 v a)))
+attribute_faults_lem v a {x} hx hd hm ho hy =
+    rw (hy, hd, hm, ho, hx, map-length (encoding v) (inside v (field 0x31 v a)), any_of-map (λ v. ltb max_value_octets (length v)) (encoding v) (inside v (field 0x31 v a)))
 
 -- an entry
 
@@ -98,36 +89,35 @@ module _ (v : List ℕ) (e : Element) {k : List ℕ} {b : Bool} (hk : k ≡ cont
   unfolding is_unlike content_type_constraint
   unlike_other t = rw (sym unlike_test ∙ t)
 
-  pub unlike_generation : {g : Element} → b ≡ true → g ≡ field 0x0A v e → g.valid ≡ true → is_unlike (content_type_constraint v e) ≡ true
-  unfolding is_unlike content_type_constraint
-  unlike_generation {g} t q h =
-      let valid : (field 0x0A v e).valid ≡ true = ap (λ (x : Element). x.valid) (sym q) ∙ h in
-      rw (sym unlike_test ∙ t, valid)
+  module _ (t : b ≡ true) {g : Element} (hg : g ≡ field 0x0A v e) where
+    pub unlike_generation : g.valid ≡ true → is_unlike (content_type_constraint v e) ≡ true
+    unfolding is_unlike content_type_constraint
+    unlike_generation h = rw (sym unlike_test ∙ t, ap (λ (x : Element). x.valid) (sym hg) ∙ h)
 
-  pub unlike_constrained : {g x : Element} {m : Bool} → b ≡ true → g ≡ field 0x0A v e → g.valid ≡ false → x ≡ field 0x30 v e → m ≡ ltb 0 (length (inside v x))
-      → m ≡ is_unlike (content_type_constraint v e)
-  unfolding is_unlike content_type_constraint
-  unlike_constrained {g} {x} {m} t q h hx hm =
-      let valid : (field 0x0A v e).valid ≡ false = ap (λ (x : Element). x.valid) (sym q) ∙ h in
-      rw (sym unlike_test ∙ t, valid, map-length (attr_constraint v) (inside v (field 0x30 v e)), hm, hx) (sym (some_members (length (inside v (field 0x30 v e)))))
+    pub unlike_constrained : {x : Element} {m : Bool} → g.valid ≡ false → x ≡ field 0x30 v e → m ≡ ltb 0 (length (inside v x)) → is_unlike (content_type_constraint v e) ≡ m
+    unfolding is_unlike content_type_constraint
+    unlike_constrained h hx hm =
+        rw (sym unlike_test ∙ t, ap (λ (x : Element). x.valid) (sym hg) ∙ h, map-length (attr_constraint v) (inside v (field 0x30 v e)), hm, hx)
+        (some_members (length (inside v (field 0x30 v e))))
 
 -- the types in front of the members of a list
 attribute_types : (v : List ℕ) (es : List Element) → types_in (map (attr_constraint v) es) ≡ map (key_of Types v) es
 unfolding attr_constraint key_of
 attribute_types v es = map-map (λ (a : Key × List Key). a.0) (attr_constraint v) es
 
-pub entry_faults_lem : (v : List ℕ) (e : Element) {x : Element} {d u m : Bool} {y z : Faults}
+pub entry_faults_lem : (v : List ℕ) (e : Element) {x : Element} {d u m : Bool} {w y z : Faults}
     → x ≡ field 0x30 v e
     → d ≡ distinct (map (key_of Types v) (inside v x))
     → u ≡ is_unlike (content_type_constraint v e)
     → m ≡ ltb max_attributes (length (inside v x))
+    → w ≡ no_faults
     → y ≡ faults_in attribute_faults (map (attr_constraint v) (inside v x))
-    → z ≡ together (record { repeated = not d; unlike = u; entries = false; attributes = m; values = false; octets = false }) y
+    → z ≡ together (record w { repeated = not d; unlike = u; attributes = m }) y
     → z ≡ entry_faults (content_type_constraint v e)
 unfolding entry_faults content_type_constraint
-entry_faults_lem v e {x} hx hd hu hm hy hz =
+entry_faults_lem v e {x} hx hd hu hm hw hy hz =
     let es = inside v (field 0x30 v e) in
-    rw (hz, hy, hd, hu, hm, hx, map-length (attr_constraint v) es, attribute_types v es)
+    rw (hz, hw, hy, hd, hu, hm, hx, map-length (attr_constraint v) es, attribute_types v es)
 
 -- the rights
 
@@ -135,17 +125,18 @@ entry_types : (v : List ℕ) (es : List Element) → types_in (map (content_type
 unfolding content_type_constraint key_of
 entry_types v es = map-map (λ (e : Key × Entry). e.0) (content_type_constraint v) es
 
-pub rights_faults_lem : (v : List ℕ) {x : Element} {d m : Bool} {y z : Faults}
+pub rights_faults_lem : (v : List ℕ) {x : Element} {d m : Bool} {w y z : Faults}
     → x ≡ root v
     → d ≡ distinct (map (key_of Types v) (inside v x))
     → m ≡ ltb max_entries (length (inside v x))
+    → w ≡ no_faults
     → y ≡ faults_in entry_faults (map (content_type_constraint v) (inside v x))
-    → z ≡ together (record { repeated = not d; unlike = false; entries = m; attributes = false; values = false; octets = false }) y
+    → z ≡ together (record w { repeated = not d; entries = m }) y
     → z ≡ rights_faults (constraints_rights v)
 unfolding rights_faults constraints_rights
-rights_faults_lem v {x} hx hd hm hy hz =
+rights_faults_lem v {x} hx hd hm hw hy hz =
     let es = inside v (root v) in
-    rw (hz, hy, hd, hm, hx, map-length (content_type_constraint v) es, entry_types v es)
+    rw (hz, hw, hy, hd, hm, hx, map-length (content_type_constraint v) es, entry_types v es)
 
 -- The faults are the tests of Judge. Each fault of a list is that of some member:
 

@@ -1,4 +1,6 @@
 -- What a TrustAnchorInfo is known to have that passes 34, and 17 for size: its length, and rights with valid keys within the limits of 01.
+use Rattle.std.specs.Prelude.{Result}
+use Rattle.anchor.specs.declared.AnchorFault.{AnchorFault}
 use Prim.Native.Nat.{ℕ, ◌≤◌}
 use mathlib.Core.Bool.{Bool, true, false, true≢false}
 use mathlib.Core.List.{List, [], ◌∷◌}
@@ -19,12 +21,11 @@ use Rattle.syntax.proofs.Rules.{octets_slice}
 use Rattle.rights.specs.Rights.{nothing}
 use Rattle.rights.proofs.Witness.{Few, ValidEntry, ValidRights}
 use Rattle.rights.proofs.ValidKeys.{valid_keys}
-use Rattle.anchor.specs.declared.AnchorCheck.{AnchorCheck}
 use Rattle.anchor.specs.Info.{constraints_extension, has_constraints, constraints_value, rights_of}
-use Rattle.anchor.specs.Judge.{check_status, passes, conforms, bad_constraints, over_entries, over_values, judge}
+use Rattle.anchor.specs.Judge.{passes, conforms, bad_constraints, over_entries, over_values, judge}
 
 -- an answer that is no pass was not given
-past : (b : Bool) (answer next : AnchorCheck) → passes answer ≡ false → passes (given_if b answer next) ≡ true → (b ≡ false) × (passes next ≡ true)
+past : (b : Bool) (answer next : Result (Unit {0}) AnchorFault) → passes answer ≡ false → passes (given_if b answer next) ≡ true → (b ≡ false) × (passes next ≡ true)
 unfolding given_if
 past true answer next h e = absurd (true≢false (sym e ∙ h))
 past false answer next h e = (refl, e)
@@ -41,7 +42,7 @@ pub record Passed (t : List ℕ) : Type 0 where
   pub values : over_values (rights_of t) ≡ false
 
 pub passed : (t : List ℕ) → passes (judge t) ≡ true → Passed t
-unfolding judge check_status
+unfolding judge
 passed t e =
     let version = past _ _ _ refl e in
     let path = past _ _ _ refl version.1 in

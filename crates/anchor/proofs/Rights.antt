@@ -1,4 +1,5 @@
 -- An anchor's rights are those of its constraints value, which is empty where there is no extension.
+use Rattle.std.specs.Prelude.{Option, Some, None, unwrap_or}
 use Prim.Native.Nat.{ℕ, zero, suc, ◌-◌, ◌≤◌, ◌<◌}
 use native.Mathlib.Omega.{arith}
 use mathlib.Core.Bool.{false, true≢false}
@@ -22,8 +23,6 @@ use Rattle.rights.specs.Constraints.{content_type_constraint, constraints_rights
 use Rattle.anchor.specs.Info.{extensions, constraints_in, constraints_extension, has_constraints, constraints_value, rights_of}
 use Rattle.syntax.specs.Types.{id_pe_cms_content_constraints}
 use Rattle.der.specs.declared.Compared.TheVariants.{Types}
-use Rattle.der.specs.declared.Found.{Found}
-use Rattle.der.specs.declared.Found.TheVariants.{At, Nowhere}
 use Rattle.der.specs.Keys.{key_of, first_with, element_found}
 use Rattle.der.proofs.Runs.{run_turn, run_on}
 use Rattle.der.proofs.Keys.{first_hit, first_miss}
@@ -34,7 +33,7 @@ absent_empty s at stop {e} q g =
     (λ h. absurd (true≢false (ap (λ (x : Element). x.valid) (sym (q ∙ element_is s at stop h)) ∙ g)))
     (λ n. rw (q ∙ element-absent s at stop n))
 
-found_empty : (n : ℕ) (s k : List ℕ) (at stop : ℕ) → stop - at ≤ n → {e : Element} → first_with Types s k (elements s at stop) ≡ At e → e.valid ≡ false
+found_empty : (n : ℕ) (s k : List ℕ) (at stop : ℕ) → stop - at ≤ n → {e : Element} → first_with Types s k (elements s at stop) ≡ Some e → e.valid ≡ false
     → e.start ≡ e.stop
 unfolding first_with
 found_empty zero s k at stop h f g = let z = rw (elements_end s at stop (omega arith)) at f in cc
@@ -51,15 +50,15 @@ found_empty (suc n) s k at stop h {e} f g =
     (λ b. let z = rw (elements_end s at stop (ltb-false at stop b)) at f in cc)
 
 -- the content constraints extension in a list, as a search finds it
-module _ (t : List ℕ) (list : Element) {f : Found}
-    (h : f ≡ first_with Types t (0x2B ∷ 0x06 ∷ 0x01 ∷ 0x05 ∷ 0x05 ∷ 0x07 ∷ 0x01 ∷ 0x12 ∷ []) (inside t list)) where
-  pub constraints_none : f ≡ Nowhere → {e : Element} → e ≡ absent 0 → e ≡ constraints_in t (inside t list)
-  unfolding constraints_in oid arc arcs digits
-  constraints_none n q = q ∙ ap element_found (sym n ∙ h)
-
-  pub constraints_found : {e : Element} → f ≡ At e → e ≡ constraints_in t (inside t list)
-  unfolding constraints_in oid arc arcs digits
-  constraints_found n = ap element_found (sym n ∙ h)
+pub constraints_found : (t : List ℕ) (list : Element) {f : Option Element}
+    → f ≡ first_with Types t (0x2B ∷ 0x06 ∷ 0x01 ∷ 0x05 ∷ 0x05 ∷ 0x07 ∷ 0x01 ∷ 0x12 ∷ []) (inside t list)
+    → unwrap_or f (absent 0) ≡ constraints_in t (inside t list)
+unfolding constraints_in oid arc arcs digits
+constraints_found t list {f} h = or_absent f ∙ ap element_found h
+  where
+    or_absent : (o : Option Element) → unwrap_or o (absent 0) ≡ element_found o
+    or_absent None = refl
+    or_absent (Some e) = refl
 
 no_extension : (t : List ℕ) → has_constraints t ≡ false → (constraints_extension t).start ≡ (constraints_extension t).stop
 unfolding constraints_extension constraints_in extensions
@@ -68,9 +67,9 @@ no_extension t g = go (first_with Types t id_pe_cms_content_constraints (inside 
     l : Element
     l = field 0x30 t (field 0xA1 t (root t))
 
-    go : (f : Found) → first_with Types t id_pe_cms_content_constraints (inside t l) ≡ f → (element_found f).valid ≡ false → (element_found f).start ≡ (element_found f).stop
-    go (At e) q h = found_empty (l.stop - l.start) t id_pe_cms_content_constraints l.start l.stop (omega arith) q h
-    go Nowhere q h = refl
+    go : (f : Option Element) → first_with Types t id_pe_cms_content_constraints (inside t l) ≡ f → (element_found f).valid ≡ false → (element_found f).start ≡ (element_found f).stop
+    go (Some e) q h = found_empty (l.stop - l.start) t id_pe_cms_content_constraints l.start l.stop (omega arith) q h
+    go None q h = refl
 
 no_value : (t : List ℕ) → has_constraints t ≡ false → constraints_value t ≡ []
 no_value t g =

@@ -1,62 +1,42 @@
 -- The checks of an add: each test of the definition as the code has it.
-use Prim.Native.Nat.{ℕ, ◌≤◌, ◌<◌}
-use native.Mathlib.Omega.{arith}
+use Rattle.std.specs.Prelude.{Result, Ok, Err}
+use Rattle.anchor.specs.declared.AnchorFault.{AnchorFault}
+use Prim.Native.Nat.{ℕ}
 use mathlib.Core.Bool.{Bool, true, false, not, ◌&&◌}
 use mathlib.Core.List.{List, [], ◌∷◌, map}
+use mathlib.Core.Logic.{◌⊎◌, inl, inr}
 use mathlib.Core.Path.{◌≡◌, refl, sym, ap, ap₂, ◌∙◌}
 use lib.ListN.{length, drop}
-use lib.Dec.{leb, ltb, eqb}
-use borrow.Author.Tests.{ltb-true, ltb-false, le-ltb, le-leb, lt-leb}
-use Rattle.octets.specs.declared.Status.{Status}
-use Rattle.octets.specs.Status.{success}
-use Rattle.octets.specs.Limits.{max_anchor_octets, max_key_identifier, max_depth}
+use lib.Dec.{ltb}
+use borrow.Author.Tests.{not-true, not-false}
+use Rattle.octets.specs.Limits.{max_anchor_octets, max_depth}
 use Rattle.octets.specs.First.{given_if}
 use Rattle.octets.specs.Lists.{any_of}
 use Rattle.octets.specs.Octets.{distinct}
-use Rattle.octets.proofs.Lists.{by_test}
 use Rattle.der.specs.declared.Element.{Element}
 use Rattle.der.specs.Element.{root, contents, inside, field, field_after}
 use Rattle.der.specs.Fit.{kept}
 use Rattle.der.specs.Check.{spans}
 use Rattle.syntax.specs.Grammar.{Syntax, fit}
-use Rattle.syntax.specs.Asn.{StoredTrustAnchorInfo, CMSContentConstraints}
+use Rattle.syntax.specs.Asn.{CMSContentConstraints}
 use Rattle.syntax.specs.Contract.Whole.{conforms_in}
 use Rattle.syntax.proofs.Each.{kept_then}
 use Rattle.syntax.proofs.Whole.{spans_bad, spans-long, spans-run}
 use Rattle.rights.specs.Rights.{Rights}
 use Rattle.rights.specs.Constraints.{constraints_rights}
-use Rattle.anchor.specs.declared.AnchorCheck.{AnchorCheck}
-use Rattle.anchor.specs.declared.AnchorCheck.TheVariants as judged
+use Rattle.anchor.specs.declared.AnchorFault.TheVariants as fault
 use Rattle.anchor.specs.declared.faults.Faults.{Faults}
 use Rattle.der.specs.declared.Compared.TheVariants.{Types}
 use Rattle.anchor.specs.Info.{version, key_id_field, key_identifier, cert_path, extensions, extn_value, constraints_in, constraints_extension}
 use Rattle.anchor.specs.Info.{constraints_value, rights_of}
 use Rattle.anchor.specs.Role.{extension_list}
-use Rattle.anchor.specs.Judge.{check_status, conforms, repeated_extension, critical_extension, bad_constraints, repeated_constraint, any_content_type_unlike}
-use Rattle.anchor.specs.Judge.{identifier_outside, over_entries, over_attributes, over_values, over_value_octets, judge_rights, judge, storable}
+use Rattle.anchor.specs.Judge.{conforms, repeated_extension, critical_extension, bad_constraints, repeated_constraint, any_content_type_unlike}
+use Rattle.anchor.specs.Judge.{identifier_outside, over_entries, over_attributes, over_values, over_value_octets, judge_rights, judge}
 use Rattle.der.specs.Keys.{key_of}
 use Rattle.anchor.specs.Contract.Faults.{is_other_critical, rights_faults}
+use Rattle.anchor.specs.Contract.Usual.{judge_sizes}
 use Rattle.anchor.proofs.Constraints.{repeated_fault, unlike_fault, entries_fault, attributes_fault, values_fault, octets_fault}
 use Rattle.anchor.proofs.Rights.{value_rights}
-
-not-leb : (a b : ℕ) → not (leb a b) ≡ ltb b a
-not-leb a b =
-    by_test (ltb b a)
-    (λ t. let u = ltb-true b a t in rw (lt-leb a b u) (sym t))
-    (λ t. let u = ltb-false b a t in rw (le-leb a b u) (sym t))
-
-module _ (k : List ℕ) where
-  pub identifier_none : length k ≡ 0 → identifier_outside k ≡ true
-  unfolding identifier_outside
-  identifier_none z =
-      let n : length k < 1 = omega arith in
-      rw (lt-leb 1 _ n)
-
-  pub identifier_some : (length k ≡ 0 → ⊥) → ltb max_key_identifier (length k) ≡ identifier_outside k
-  unfolding identifier_outside
-  identifier_some z =
-      let n : 1 ≤ length k = omega arith in
-      rw (le-leb 1 _ n) (sym (not-leb (length k) max_key_identifier))
 
 -- DER and a syntax
 module _ (g : Syntax) (t : List ℕ) {e : Element} (q : e ≡ root t) where
@@ -65,23 +45,12 @@ module _ (g : Syntax) (t : List ℕ) {e : Element} (q : e ≡ root t) where
   by_spans h =
       ap (λ (b : Bool). b && kept (fit g t 0 (length t) 0)) (sym h) ∙ sym (kept_then (spans max_depth t 0 (length t) 0) (fit g t 0 (length t) 0))
 
-  pub conforms_bad : e.valid ≡ false → false ≡ conforms g t
-  conforms_bad b = by_spans (spans_bad max_depth t 0 (length t) 0 q b)
-
-  pub conforms-long : e.valid ≡ true → (e.stop ≡ length t → ⊥) → false ≡ conforms g t
-  conforms-long b n = by_spans (spans-long max_depth t 0 (length t) 0 q b n)
+  pub conforms_not : (not e.valid ≡ true) ⊎ ((not e.valid ≡ false) × (e.stop ≡ length t → ⊥)) → false ≡ conforms g t
+  conforms_not (inl b) = by_spans (spans_bad max_depth t 0 (length t) 0 q (not-true _ b))
+  conforms_not (inr h) = by_spans (spans-long max_depth t 0 (length t) 0 q (not-false _ h.0) h.1)
 
   pub conforms_whole : e.valid ≡ true → e.stop ≡ length t → conforms_in max_depth g t 0 (length t) 0 ≡ conforms g t
   conforms_whole b h = by_spans (spans-run max_depth t 0 (length t) 0 q b h)
-
-pub storable_is : (t : List ℕ) {a : Bool} {j : AnchorCheck} {n : Status} → a ≡ conforms StoredTrustAnchorInfo t → a ≡ true → j ≡ judge t → n ≡ check_status j
-    → eqb n.number success.number ≡ storable t
-unfolding storable
-storable_is t p h q r = rw (sym p ∙ h, r, q)
-
-pub storable-not : (t : List ℕ) {a : Bool} → a ≡ conforms StoredTrustAnchorInfo t → a ≡ false → storable t ≡ false
-unfolding storable
-storable-not t p h = rw (sym p ∙ h)
 
 -- the parts of a TrustAnchorInfo, each found in the one before it
 
@@ -122,7 +91,7 @@ module _ (t : List ℕ) {e : Element} (p : e ≡ constraints_extension t) {v : L
   unfolding bad_constraints
   bad_constraints_is r = rw (r, q, p)
 
-pub rights_is : (t : List ℕ) {k v : List ℕ} {j : AnchorCheck} → k ≡ key_identifier t → v ≡ constraints_value t → j ≡ judge_rights t k (constraints_rights v)
+pub rights_is : (t : List ℕ) {k v : List ℕ} {j : Result (Unit {0}) AnchorFault} → k ≡ key_identifier t → v ≡ constraints_value t → j ≡ judge_rights t k (constraints_rights v)
     → j ≡ judge_rights t (key_identifier t) (rights_of t)
 rights_is t p q h = h ∙ ap₂ (judge_rights t) p (ap constraints_rights q ∙ value_rights t)
 
@@ -149,36 +118,36 @@ module _ (r : Rights) {f : Faults} (h : f ≡ rights_faults r) where
 
 -- "The first that applies is given": stages in their order and what is given after them
 
-abbrev stages : List ℕ → List (Bool × AnchorCheck)
+abbrev stages : List ℕ → List (Bool × Result (Unit {0}) AnchorFault)
 stages t =
-    ((version t).valid, judged.OtherVersion)
-    ∷ ((cert_path t).valid, judged.CertPath)
-    ∷ (repeated_extension t, judged.RepeatedExtension)
-    ∷ (critical_extension t, judged.CriticalExtension)
-    ∷ (bad_constraints t, judged.ConstraintsSyntax)
+    ((version t).valid, Err fault.OtherVersion)
+    ∷ ((cert_path t).valid, Err fault.CertPath)
+    ∷ (repeated_extension t, Err fault.RepeatedExtension)
+    ∷ (critical_extension t, Err fault.CriticalExtension)
+    ∷ (bad_constraints t, Err fault.ConstraintsSyntax)
     ∷ []
 
-abbrev rights_stages : List ℕ → List ℕ → Rights → List (Bool × AnchorCheck)
+abbrev rights_stages : List ℕ → List ℕ → Rights → List (Bool × Result (Unit {0}) AnchorFault)
 rights_stages t k r =
-    (repeated_constraint r, judged.RepeatedConstraint)
-    ∷ (any_content_type_unlike r, judged.AnyContentTypeEntry)
-    ∷ (ltb max_anchor_octets (length t), judged.AnchorOctets)
-    ∷ (identifier_outside k, judged.KeyIdentifierOctets)
-    ∷ (over_entries r, judged.EntryCount)
-    ∷ (over_attributes r, judged.AttributeCount)
-    ∷ (over_values r, judged.ValueCount)
-    ∷ (over_value_octets r, judged.ValueOctets)
+    (repeated_constraint r, Err fault.RepeatedConstraint)
+    ∷ (any_content_type_unlike r, Err fault.AnyContentTypeEntry)
+    ∷ (ltb max_anchor_octets (length t), Err fault.AnchorOctets)
+    ∷ (identifier_outside k, Err fault.KeyIdentifierOctets)
+    ∷ (over_entries r, Err fault.EntryCount)
+    ∷ (over_attributes r, Err fault.AttributeCount)
+    ∷ (over_values r, Err fault.ValueCount)
+    ∷ (over_value_octets r, Err fault.ValueOctets)
     ∷ []
 
-unfoldable pub first_of : List (Bool × AnchorCheck) → AnchorCheck → AnchorCheck
+unfoldable pub first_of : List (Bool × Result (Unit {0}) AnchorFault) → Result (Unit {0}) AnchorFault → Result (Unit {0}) AnchorFault
 first_of [] last = last
 first_of (s ∷ l) last = given_if s.0 s.1 (first_of l last)
 
 -- an answer is what stages give
-pub record From (j : AnchorCheck) (l : List (Bool × AnchorCheck)) (last : AnchorCheck) : Type 0 where
+pub record From (j : Result (Unit {0}) AnchorFault) (l : List (Bool × Result (Unit {0}) AnchorFault)) (last : Result (Unit {0}) AnchorFault) : Type 0 where
   pub is : j ≡ first_of l last
 
-module _ {j answer last : AnchorCheck} {b : Bool} {l : List (Bool × AnchorCheck)} (p : From j ((b, answer) ∷ l) last) where
+module _ {j answer last : Result (Unit {0}) AnchorFault} {b : Bool} {l : List (Bool × Result (Unit {0}) AnchorFault)} (p : From j ((b, answer) ∷ l) last) where
   pub passed : b ≡ false → From j l last
   unfolding first_of given_if
   passed h = record { is = p.is ∙ rw h }
@@ -187,7 +156,21 @@ module _ {j answer last : AnchorCheck} {b : Bool} {l : List (Bool × AnchorCheck
   unfolding first_of given_if
   given h = sym (p.is ∙ rw h)
 
-pub given_last : {j last : AnchorCheck} → From j [] last → last ≡ j
+-- two stages that are tested together
+module _ {j last : Result (Unit {0}) AnchorFault} {l : List (Bool × Result (Unit {0}) AnchorFault)} {x y : AnchorFault} where
+  pub two_passed : (a b : Bool) → From j ((a, Err x) ∷ (b, Err y) ∷ l) last → ◌≡◌ {A = Result (Unit {0}) AnchorFault} (given_if a (Err x) (given_if b (Err y) (Ok tt))) (Ok tt) → From j l last
+  unfolding given_if
+  two_passed true b p h = cc
+  two_passed false true p h = cc
+  two_passed false false p h = passed (passed p refl) refl
+
+  pub two_given : (a b : Bool) → From j ((a, Err x) ∷ (b, Err y) ∷ l) last → {f : AnchorFault} → ◌≡◌ {A = Result (Unit {0}) AnchorFault} (given_if a (Err x) (given_if b (Err y) (Ok tt))) (Err f) → Err f ≡ j
+  unfolding given_if
+  two_given true b p h = sym h ∙ given p refl
+  two_given false true p h = sym h ∙ given (passed p refl) refl
+  two_given false false p h = cc
+
+pub given_last : {j last : Result (Unit {0}) AnchorFault} → From j [] last → last ≡ j
 unfolding first_of
 given_last p = sym p.is
 
@@ -201,7 +184,7 @@ unfolding judge first_of
 start t = record { is = refl }
 
 abbrev pub RightsPast : ℕ → List ℕ → List ℕ → Rights → Type 0
-RightsPast n t k r = From (judge_rights t k r) (drop n (rights_stages t k r)) judged.Passes
+RightsPast n t k r = From (judge_rights t k r) (drop n (rights_stages t k r)) (Ok tt)
 
 pub rights_start : (t k : List ℕ) (r : Rights) → RightsPast 0 t k r
 unfolding first_of
@@ -233,17 +216,17 @@ module _ (t k : List ℕ) (r : Rights) {f : Faults} (h : f ≡ rights_faults r) 
     pub past_unlike : RightsPast 2 t k r
     past_unlike = passed past_repeats (unlike_is r h ∙ like)
 
-    module _ (short : length t ≤ max_anchor_octets) where
-      pub past_octets : RightsPast 3 t k r
-      past_octets = passed past_unlike (le-ltb max_anchor_octets (length t) short)
+    module _ {s : Result (Unit {0}) AnchorFault} (s_is : s ≡ judge_sizes t k) where
+      pub bad_size : {x : AnchorFault} → s ≡ Err x → Err x ≡ judge_rights t k r
+      bad_size e = two_given _ _ past_unlike (sym s_is ∙ e)
 
-      module _ (fits : identifier_outside k ≡ false) where
-        pub past_identifier : RightsPast 4 t k r
-        past_identifier = passed past_octets fits
+      module _ (fine : s ≡ Ok tt) where
+        pub past_sizes : RightsPast 4 t k r
+        past_sizes = two_passed _ _ past_unlike (sym s_is ∙ fine)
 
         module _ (few_entries : f.entries ≡ false) where
           pub past_entries : RightsPast 5 t k r
-          past_entries = passed past_identifier (entries_is r h ∙ few_entries)
+          past_entries = passed past_sizes (entries_is r h ∙ few_entries)
 
           module _ (few_attributes : f.attributes ≡ false) where
             pub past_attributes : RightsPast 6 t k r

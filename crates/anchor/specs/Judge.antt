@@ -1,5 +1,6 @@
 -- 01, After acceptance, add: the checks up to status 17 for size, in order; and The store image: a stored TrustAnchorInfo.
-use Rattle.std.specs.Prelude.{ℕ, Bool, not, ◌&&◌, List, map, length, leb, ltb, eqb}
+use Rattle.anchor.specs.declared.AnchorFault.{AnchorFault}
+use Rattle.std.specs.Prelude.{is_ok, ℕ, Bool, not, ◌&&◌, List, map, length, leb, ltb, eqb, Result, Ok, Err}
 use Rattle.octets.specs.declared.Status.{Status}
 use Rattle.octets.specs.Status.{success, insufficient_memory, unsupported_trust_anchor_format}
 use Rattle.octets.specs.Limits.{max_anchor_octets, max_key_identifier, max_depth, max_entries, max_attributes, max_values, max_value_octets}
@@ -12,29 +13,33 @@ use Rattle.der.specs.Keys.{type_of}
 use Rattle.syntax.specs.Grammar.{Syntax, fit}
 use Rattle.syntax.specs.Asn.{StoredTrustAnchorInfo, CMSContentConstraints}
 use Rattle.rights.specs.Rights.{Key, Rights, any_content_type}
-use Rattle.anchor.specs.declared.AnchorCheck.{AnchorCheck}
-use Rattle.anchor.specs.declared.AnchorCheck.TheVariants as judged
+use Rattle.anchor.specs.declared.AnchorFault.TheVariants as fault
 use Rattle.anchor.specs.Info.{version, key_identifier, cert_path, extensions, critical, is_constraints, has_constraints, constraints_value, rights_of}
 
--- 01's numbers
-unfoldable pub check_status : AnchorCheck → Status
-check_status judged.Passes = success
-check_status judged.OtherVersion = unsupported_trust_anchor_format
-check_status judged.CertPath = unsupported_trust_anchor_format
-check_status judged.RepeatedExtension = unsupported_trust_anchor_format
-check_status judged.CriticalExtension = unsupported_trust_anchor_format
-check_status judged.ConstraintsSyntax = unsupported_trust_anchor_format
-check_status judged.RepeatedConstraint = unsupported_trust_anchor_format
-check_status judged.AnyContentTypeEntry = unsupported_trust_anchor_format
-check_status judged.AnchorOctets = insufficient_memory
-check_status judged.KeyIdentifierOctets = insufficient_memory
-check_status judged.EntryCount = insufficient_memory
-check_status judged.AttributeCount = insufficient_memory
-check_status judged.ValueCount = insufficient_memory
-check_status judged.ValueOctets = insufficient_memory
+-- 01's number of a fault
+unfoldable pub fault_status : AnchorFault → Status
+fault_status fault.OtherVersion = unsupported_trust_anchor_format
+fault_status fault.CertPath = unsupported_trust_anchor_format
+fault_status fault.RepeatedExtension = unsupported_trust_anchor_format
+fault_status fault.CriticalExtension = unsupported_trust_anchor_format
+fault_status fault.ConstraintsSyntax = unsupported_trust_anchor_format
+fault_status fault.RepeatedConstraint = unsupported_trust_anchor_format
+fault_status fault.AnyContentTypeEntry = unsupported_trust_anchor_format
+fault_status fault.AnchorOctets = insufficient_memory
+fault_status fault.KeyIdentifierOctets = insufficient_memory
+fault_status fault.EntryCount = insufficient_memory
+fault_status fault.AttributeCount = insufficient_memory
+fault_status fault.ValueCount = insufficient_memory
+fault_status fault.ValueOctets = insufficient_memory
 
-abbrev pub passes : AnchorCheck → Bool
-passes j = eqb (check_status j).number success.number
+-- .. and of all checks
+unfoldable pub check_status : Result (Unit {0}) AnchorFault → Status
+check_status (Ok _) = success
+check_status (Err f) = fault_status f
+
+-- no fault was found
+abbrev pub passes : Result (Unit {0}) AnchorFault → Bool
+passes j = is_ok j
 
 -- octets by themselves: DER, depth counted from their element, and of a syntax
 unfoldable pub conforms : Syntax → List ℕ → Bool
@@ -84,25 +89,25 @@ unfoldable pub over_value_octets : Rights → Bool
 over_value_octets r = any_of (λ e. any_of (λ a. any_of (λ v. ltb max_value_octets (length v)) a.1) e.1.constraints) r
 
 -- The checks after those of syntax: of a TrustAnchorInfo's rights r, of its size (17, "over 1,024 octets") and of its key identifier k.
-abbrev pub judge_rights : List ℕ → List ℕ → Rights → AnchorCheck
+abbrev pub judge_rights : List ℕ → List ℕ → Rights → Result (Unit {0}) AnchorFault
 judge_rights t k r =
-    given_if (repeated_constraint r) judged.RepeatedConstraint
-    (given_if (any_content_type_unlike r) judged.AnyContentTypeEntry
-    (given_if (ltb max_anchor_octets (length t)) judged.AnchorOctets
-    (given_if (identifier_outside k) judged.KeyIdentifierOctets
-    (given_if (over_entries r) judged.EntryCount
-    (given_if (over_attributes r) judged.AttributeCount
-    (given_if (over_values r) judged.ValueCount
-    (given_if (over_value_octets r) judged.ValueOctets judged.Passes)))))))
+    given_if (repeated_constraint r) (Err fault.RepeatedConstraint)
+    (given_if (any_content_type_unlike r) (Err fault.AnyContentTypeEntry)
+    (given_if (ltb max_anchor_octets (length t)) (Err fault.AnchorOctets)
+    (given_if (identifier_outside k) (Err fault.KeyIdentifierOctets)
+    (given_if (over_entries r) (Err fault.EntryCount)
+    (given_if (over_attributes r) (Err fault.AttributeCount)
+    (given_if (over_values r) (Err fault.ValueCount)
+    (given_if (over_value_octets r) (Err fault.ValueOctets) (Ok tt))))))))
 
 -- The checks of a TrustAnchorInfo, in the order of 01, first "a version other than 1" and "certPath present". (The certificate forms are told by the TrustAnchorChoice around it.)
-unfoldable pub judge : List ℕ → AnchorCheck
+unfoldable pub judge : List ℕ → Result (Unit {0}) AnchorFault
 judge t =
-    given_if (version t).valid judged.OtherVersion
-    (given_if (cert_path t).valid judged.CertPath
-    (given_if (repeated_extension t) judged.RepeatedExtension
-    (given_if (critical_extension t) judged.CriticalExtension
-    (given_if (bad_constraints t) judged.ConstraintsSyntax (judge_rights t (key_identifier t) (rights_of t))))))
+    given_if (version t).valid (Err fault.OtherVersion)
+    (given_if (cert_path t).valid (Err fault.CertPath)
+    (given_if (repeated_extension t) (Err fault.RepeatedExtension)
+    (given_if (critical_extension t) (Err fault.CriticalExtension)
+    (given_if (bad_constraints t) (Err fault.ConstraintsSyntax) (judge_rights t (key_identifier t) (rights_of t))))))
 
 -- 01, The store image: "A stored TrustAnchorInfo is DER of RFC 5914's syntax, depth counted from itself, and passes every check of an add up to status 17 for size."
 unfoldable pub storable : List ℕ → Bool

@@ -1,29 +1,30 @@
 -- 01, Community Update: "removals (absent ones pass), then additions at the end (present ones pass)".
-use Prim.Native.Nat.{ℕ, ◌+◌, ◌≤◌, ◌<◌}
+use Rattle.std.specs.Prelude.{Result, Ok, Err}
+use Prim.Native.Nat.{ℕ, ◌+◌, ◌≤◌}
 use native.Mathlib.Omega.{arith}
 use mathlib.Core.Bool.{Bool, true, false, not, ◌&&◌}
-use mathlib.Core.List.{List, [], ◌∷◌, ◌++◌, flat_map, append_assoc, append-nil}
+use mathlib.Core.List.{List, [], ◌∷◌, ◌++◌, map, flat_map, append_assoc, append-nil}
 use mathlib.Core.Path.{◌≡◌, refl, sym, ap, ap₂, ◌∙◌}
 use lib.ListN.{length, take, drop, set, length-append, length-set}
 use lib.Seq.{take-suc-set, take_at, drop_at}
 use lib.Dec.{leb, ltb, eqb}
 use borrow.Author.Tests.{leb-true, leb-false, ltb-false, ne_eqb}
+use Rattle.octets.specs.declared.Status.{Status}
+use Rattle.octets.specs.Status.{insufficient_memory}
 use Rattle.octets.specs.Limits.{max_name_octets, max_communities}
 use Rattle.octets.specs.Lists.{any_of, filter}
 use Rattle.octets.specs.Octets.{octet, member}
 use Rattle.octets.proofs.Lists.{by_test, neither, keep_in, keep_out}
 use Rattle.der.specs.declared.Element.{Element}
 use Rattle.der.specs.Element.{element_at, contents}
-use Rattle.der.specs.Contract.Reading.{next_at}
+use Rattle.der.proofs.Elements.{elements_end}
+use Rattle.der.proofs.Runs.{run_turn}
 use Rattle.store.specs.Image.{encode_name}
 use Rattle.store.specs.Contract.Parts.{names_from}
 use Rattle.store.proofs.Standing.{flat_map_append}
 use Rattle.protocol.specs.Community.{after_removals}
 use Rattle.protocol.proofs.Lists.{keep_append}
-use Rattle.apply.specs.declared.community.Grown.{Grown}
-use Rattle.apply.specs.declared.community.Grown.TheVariants.{To, Full}
-use Rattle.apply.specs.Contract.Names.{oids_from, Section, Joins, Joinable, Grows, not_kept, Addable, AddsName, AddableAll, AddsAll}
-use Rattle.apply.proofs.Oids.{oids_end, oids_turn}
+use Rattle.apply.specs.Contract.Names.{oids_from, Section, Joins, Grows, not_kept, Addable, AddsName, AddableAll, AddsAll}
 use Rattle.apply.proofs.Sections.{section_count}
 
 -- no name yet
@@ -42,9 +43,9 @@ section_start d h =
 no_oids : (s : List ℕ) (stop start : ℕ) → leb stop start ≡ eqb (length (oids_from s stop start)) 0
 no_oids s stop start =
     by_test (leb stop start)
-    (λ t. t ∙ sym (ap (λ (l : List (List ℕ)). eqb (length l) 0) (oids_end s stop start (leb-true stop start t))))
+    (λ t. t ∙ sym (ap (λ (l : List (List ℕ)). eqb (length l) 0) (ap (map (contents s)) (elements_end s start stop (leb-true stop start t)))))
     (λ t.
-    let e = oids_turn s stop start (leb-false stop start t) {e = element_at s start stop} refl refl in
+    let e = ap (map (contents s)) (run_turn s start stop {e = element_at s start stop} refl (leb-false stop start t) refl) in
     t ∙ sym (ne_eqb (length (oids_from s stop start)) 0 (λ z. absurd (omega (arith, ap length e)))))
 
 module _ (s : List ℕ) (e : Element) (l : List (List ℕ)) {b : Bool} (c : b ≡ e.valid && leb e.stop e.start) where
@@ -88,7 +89,7 @@ module _ {d : List ℕ} {len k : ℕ} (name : List ℕ) (w : Addable d len k nam
       in
       ap (member name) (sym e) ∙ sym m
 
-  pub add_present : b ≡ true → AddsName d len k name (To len) d
+  pub add_present : b ≡ true → AddsName d len k name (Ok tt) len d
   unfolding filter
   add_present t =
       record {
@@ -109,16 +110,16 @@ module _ {d : List ℕ} {len k : ℕ} (name : List ℕ) (w : Addable d len k nam
         ap (λ (r : List (List ℕ)). kept ++ (added ++ r)) (keep_in (λ x. not (member x kept)) name [] (ap not (among kept added s c ∙ t)))
         ∙ sym (append_assoc kept added (name ∷ []))
 
-    pub add_none : octet d 0 ≡ 16 → AddsName d len k name Full d
+    pub add_none : octet d 0 ≡ 16 → AddsName d len k name (Err insufficient_memory) len d
     add_none z =
         record {
           same_room = refl;
           few = held;
           adds = λ kept added s c.
-              omega (arith, ap length (one_more kept added s c), length-append (kept ++ added) (name ∷ []), section_count s);
+              (refl, omega (arith, ap length (one_more kept added s c), length-append (kept ++ added) (name ∷ []), section_count s));
         }
 
-    pub add_one : (octet d 0 ≡ 16 → ⊥) → {r : ℕ} {d' : List ℕ} → Joins d len name r d' → AddsName d len k name (To r) d'
+    pub add_one : (octet d 0 ≡ 16 → ⊥) → {r : ℕ} {d' : List ℕ} → Joins d len name r d' → AddsName d len k name (Ok tt) r d'
     add_one n j =
         let l = w.kept ++ w.added in
         record {
@@ -127,28 +128,23 @@ module _ {d : List ℕ} {len k : ℕ} (name : List ℕ) (w : Addable d len k nam
           adds = λ kept added s c. rw (one_more kept added s c) (j.joins (kept ++ added) s);
         }
 
-pub add_joinable : {d : List ℕ} {len k : ℕ} {name : List ℕ} → Addable d len k name → (octet d 0 ≡ 16 → ⊥) → Joinable d len name
-add_joinable w n =
-    let c = section_count w.section in
-    record { names = w.kept ++ w.added; section = w.section; few = omega (arith, w.few); small = w.small }
+-- the additions, one after the other: `all` of them, and those that are left
 
--- the additions, one after the other
-
-module _ (s : List ℕ) (stop start k : ℕ) (d₀ : List ℕ) (len : ℕ) where
-  pub record Added (kept : List (List ℕ)) (d : List ℕ) (i end : ℕ) : Type 0 where
+module _ (all : List (List ℕ)) (k : ℕ) (d₀ : List ℕ) (len : ℕ) where
+  pub record Added (kept : List (List ℕ)) (d : List ℕ) (left : List (List ℕ)) (end : ℕ) : Type 0 where
     pub added : List (List ℕ)
     pub section : Section d end (kept ++ added)
-    pub rest : added ++ not_kept kept (oids_from s stop i) ≡ not_kept kept (oids_from s stop start)
+    pub rest : added ++ not_kept kept left ≡ not_kept kept all
 
-  pub record Joining (d : List ℕ) (i end : ℕ) : Type 0 where
+  pub record Joining (d : List ℕ) (left : List (List ℕ)) (end : ℕ) : Type 0 where
     pub same_room : length d ≡ length d₀
     pub count : octet d₀ 0 ≡ k
     pub few : octet d 0 ≤ max_communities
-    pub small : any_of (λ c. ltb max_name_octets (length c)) (oids_from s stop i) ≡ false
-    pub so_far : (kept : List (List ℕ)) → Section d₀ len kept → Added kept d i end
+    pub small : any_of (λ c. ltb max_name_octets (length c)) left ≡ false
+    pub so_far : (kept : List (List ℕ)) → Section d₀ len kept → Added kept d left end
 
-  module _ {d : List ℕ} {i end : ℕ} (w : Joining d i end) where
-    pub joining_end : stop ≤ i → AddsAll (oids_from s stop start) d₀ len (To end) d
+  module _ {d : List ℕ} (s : List ℕ) {l : List Element} {end : ℕ} (w : Joining d (map (contents s) l) end) where
+    pub joining_end : l ≡ [] → AddsAll all d₀ len (Ok tt) end d
     unfolding filter
     joining_end h =
         record {
@@ -156,19 +152,22 @@ module _ (s : List ℕ) (stop start k : ℕ) (d₀ : List ℕ) (len : ℕ) where
           few = w.few;
           adds = λ kept v.
               let a = w.so_far kept v in
-              let e : a.added ≡ not_kept kept (oids_from s stop start) = sym (append-nil a.added) ∙ (rw (oids_end s stop i h) at a.rest) in
+              let e : a.added ≡ not_kept kept all = sym (append-nil a.added) ∙ (rw h at a.rest) in
               rw (← e) a.section;
         }
 
-    module _ (more : i < stop) {e : Element} (q : e ≡ element_at s i stop) {name : List ℕ} (c : name ≡ contents s e) where
-      turn : oids_from s stop i ≡ name ∷ oids_from s stop (next_at e stop)
-      turn = oids_turn s stop i more q refl ∙ ap (λ (v : List ℕ). v ∷ oids_from s stop (next_at e stop)) (sym c)
+    module _ {e : Element} {m : List Element} (q : l ≡ e ∷ m) {name : List ℕ} (c : name ≡ contents s e) where
+      abbrev more : List (List ℕ)
+      more = map (contents s) m
 
-      smalls : (ltb max_name_octets (length name) ≡ false) × (any_of (λ c. ltb max_name_octets (length c)) (oids_from s stop (next_at e stop)) ≡ false)
+      turn : map (contents s) l ≡ name ∷ more
+      turn = ap (map (contents s)) q ∙ ap (λ (v : List ℕ). v ∷ more) (sym c)
+
+      smalls : (ltb max_name_octets (length name) ≡ false) × (any_of (λ c. ltb max_name_octets (length c)) more ≡ false)
       unfolding any_of
       smalls = neither _ _ (rw turn at w.small)
 
-      pub joining_addable : AddableAll (oids_from s stop start) d₀ len → Addable d end k name
+      pub joining_addable : AddableAll all d₀ len → Addable d end k name
       joining_addable v =
           let a = w.so_far v.kept v.section in
           record {
@@ -181,60 +180,49 @@ module _ (s : List ℕ) (stop start k : ℕ) (d₀ : List ℕ) (len : ℕ) where
           }
 
       -- all that is left, with the next one first
-      left : (kept added : List (List ℕ)) → added ++ not_kept kept (oids_from s stop i) ≡ (added ++ not_kept kept (name ∷ [])) ++ not_kept kept (oids_from s stop (next_at e stop))
-      left kept added =
-          ap (λ (l : List (List ℕ)). added ++ not_kept kept l) turn
-          ∙ ap (λ (l : List (List ℕ)). added ++ l) (keep_append (λ x. not (member x kept)) (name ∷ []) (oids_from s stop (next_at e stop)))
-          ∙ sym (append_assoc added (not_kept kept (name ∷ [])) (not_kept kept (oids_from s stop (next_at e stop))))
+      next_first : (kept added : List (List ℕ)) → added ++ not_kept kept (map (contents s) l) ≡ (added ++ not_kept kept (name ∷ [])) ++ not_kept kept more
+      next_first kept added =
+          ap (λ (r : List (List ℕ)). added ++ not_kept kept r) turn
+          ∙ ap (λ (r : List (List ℕ)). added ++ r) (keep_append (λ x. not (member x kept)) (name ∷ []) more)
+          ∙ sym (append_assoc added (not_kept kept (name ∷ [])) (not_kept kept more))
 
-      module _ {r : Grown} {d' : List ℕ} (one : AddsName d end k name r d') where
-        grown : (kept : List (List ℕ)) (v : Section d₀ len kept) → Grows kept ((w.so_far kept v).added ++ not_kept kept (name ∷ [])) r d'
+      module _ {r : Result (Unit {0}) Status} {n : ℕ} {d' : List ℕ} (one : AddsName d end k name r n d') where
+        grown : (kept : List (List ℕ)) (v : Section d₀ len kept) → Grows kept ((w.so_far kept v).added ++ not_kept kept (name ∷ [])) r n d'
         grown kept v = let a = w.so_far kept v in one.adds kept a.added a.section (sym (section_count v) ∙ w.count)
 
-        pub joining_full : r ≡ Full → AddsAll (oids_from s stop start) d₀ len Full d'
+        pub joining_full : {status : Status} → r ≡ Err status → AddsAll all d₀ len (Err status) n d'
         joining_full f =
             record {
               same_room = one.same_room ∙ w.same_room;
               few = one.few;
               adds = λ kept v.
                   let a = w.so_far kept v in
-                  let g : max_communities < length (kept ++ (a.added ++ not_kept kept (name ∷ []))) = rw f at (grown kept v) in
-                  let rest = not_kept kept (oids_from s stop (next_at e stop)) in
-                  let t = ap length (sym (left kept a.added) ∙ a.rest) in
-                  omega (
-                    arith,
-                    g,
-                    t,
-                    length-append kept (a.added ++ not_kept kept (name ∷ [])),
-                    length-append (a.added ++ not_kept kept (name ∷ [])) rest,
-                    length-append kept (not_kept kept (oids_from s stop start)),
+                  let g = rw f at (grown kept v) in
+                  let t = ap length (sym (next_first kept a.added) ∙ a.rest) in (
+                    g.0,
+                    omega (
+                      arith,
+                      g.1,
+                      t,
+                      length-append kept (a.added ++ not_kept kept (name ∷ [])),
+                      length-append (a.added ++ not_kept kept (name ∷ [])) (not_kept kept more),
+                      length-append kept (not_kept kept all),
+                    ),
                   );
             }
 
-        pub joining_on : {n : ℕ} → r ≡ To n → {next : ℕ} → next ≡ next_at e stop → Joining d' next n
-        joining_on {n} f {next} j =
+        pub joining_on : {x : Unit {0}} → r ≡ Ok x → Joining d' more n
+        joining_on f =
             record {
               same_room = one.same_room ∙ w.same_room;
               count = w.count;
               few = one.few;
-              small = rw j smalls.1;
+              small = smalls.1;
               so_far = λ kept v.
                   let a = w.so_far kept v in
                   record {
                     added = a.added ++ not_kept kept (name ∷ []);
                     section = rw f at (grown kept v);
-                    rest = rw j (sym (left kept a.added) ∙ a.rest);
+                    rest = sym (next_first kept a.added) ∙ a.rest;
                   };
             }
-
--- the loop begins
-pub joining_start : (s : List ℕ) (stop start k : ℕ) (d : List ℕ) (len : ℕ) → AddableAll (oids_from s stop start) d len → k ≡ octet d 0
-    → Joining s stop start k d len d start len
-joining_start s stop start k d len w c =
-    record {
-      same_room = refl;
-      count = sym c;
-      few = omega (arith, section_count w.section, w.few);
-      small = w.small;
-      so_far = λ kept v. record { added = []; section = rw (append-nil kept) v; rest = refl };
-    }

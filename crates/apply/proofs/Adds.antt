@@ -1,11 +1,12 @@
 -- 01, After acceptance, add: one law for each way through its checks.
+use Rattle.std.specs.Prelude.{Result, IsErrAnd, Option, Some, None, Ok, Err}
 use Prim.Native.Nat.{ℕ, ◌≤◌, ◌<◌}
 use native.Mathlib.Omega.{arith}
 use mathlib.Core.Bool.{Bool, true, false}
 use mathlib.Core.List.{List, [], ◌∷◌, ◌++◌, map, append_assoc, append-nil}
 use mathlib.Core.Path.{◌≡◌, refl, sym, ap, ◌∙◌}
 use lib.ListN.{length, take}
-use borrow.Author.Tests.{le-leb, lt-leb, eq-eqb, ne_eqb}
+use borrow.Author.Tests.{le-leb, lt-leb}
 use Rattle.octets.specs.declared.Status.{Status}
 use Rattle.octets.specs.Status.{success, not_authorized, insufficient_memory, improper_ta_addition}
 use Rattle.octets.specs.First.{given_if}
@@ -14,9 +15,8 @@ use Rattle.octets.specs.Octets.{same}
 use Rattle.rights.specs.Rights.{Rights}
 use Rattle.rights.specs.Decision.{within}
 use Rattle.anchor.specs.Info.{public_key, rights_of}
-use Rattle.anchor.specs.Judge.{judge, check_status as judgedStatus, passes}
-use Rattle.store.specs.declared.Position.{Position}
-use Rattle.store.specs.declared.Position.TheVariants.{At, Nothing}
+use Rattle.anchor.specs.declared.AnchorFault.{AnchorFault}
+use Rattle.anchor.specs.Judge.{judge, check_status as judgedStatus, fault_status}
 use Rattle.store.specs.declared.Sought.TheVariants.{PublicKey}
 use Rattle.store.specs.Store.{Anchor, Store, anchors}
 use Rattle.store.specs.Image.{well_formed}
@@ -28,7 +28,7 @@ use Rattle.store.specs.Steps.{with_others}
 use Rattle.edit.specs.Contract.Edits.{one_more}
 use Rattle.protocol.specs.Update.{Step, unnumbered, unchanged, added, has_key}
 use Rattle.protocol.proofs.WellFormed.{ValidAnchors, valid_added}
-use Rattle.apply.specs.declared.update.Applied.TheVariants.{Done, Failed}
+use Rattle.apply.specs.declared.scratch.ScratchImage.{ScratchImage}
 use Rattle.apply.specs.Contract.Scratch.{Holds, Scratch, HoldsBoth, info_at}
 use Rattle.apply.specs.Contract.Edits.{Growable, Appends}
 use Rattle.apply.specs.Contract.Entry.{Applies, Conforming}
@@ -58,11 +58,15 @@ valid_anchors σ g =
     let p = rules σ g in
     record { count = p.anchor_count_lem; each = p.each_anchor; keys = p.keys }
 
+-- the scratch image of these octets
+abbrev pub scratch : List ℕ → ℕ → ℕ → ScratchImage
+scratch d len k = record { octets = d; len = len; former = k }
+
 -- a step that changes nothing
-pub unmoved : (f : Anchor → List Anchor → List Anchor → Step) {d : List ℕ} {len k : ℕ} {status : Status}
-    → ((σ : Store) (old new : List Anchor) → HoldsBoth σ old new d len k → f σ.apex old new ≡ unchanged status old new)
-    → Applies f d len k (Failed status) d
-unmoved f {d} {len} {k} {status} e =
+pub unmoved : (f : Anchor → List Anchor → List Anchor → Step) {w : ScratchImage} {status : Status}
+    → ((σ : Store) (old new : List Anchor) → HoldsBoth σ old new w.octets w.len w.former → f σ.apex old new ≡ unchanged status old new)
+    → Applies f w (Err status) w
+unmoved f e =
     record {
       room = refl;
       does = λ σ old new h.
@@ -76,19 +80,15 @@ module _ (rights : Rights) (t : List ℕ) where
 
   module _ (d : List ℕ) (len : ℕ) where
     -- 34, and 17 for size
-    pub add_judged : {k : ℕ} {status : Status} → status ≡ judgedStatus (judge t) → (status.number ≡ 0 → ⊥) → Applies adding d len k (Failed status) d
-    unfolding added given_if
-    add_judged {k} {status} e n =
-        unmoved adding (λ σ old new h.
-        let f : passes (judge t) ≡ false = ne_eqb _ _ (λ z. n (ap (λ (s : Status). s.number) e ∙ z)) in
-        rw (f, e))
+    pub add_judged : {k : ℕ} {fault : AnchorFault} (r : Result (Unit {0}) Status) → judge t ≡ Err fault → IsErrAnd r (λ status. status ≡ fault_status fault)
+        → Applies adding (scratch d len k) r (scratch d len k)
+    unfolding added given_if judgedStatus
+    add_judged (Err status) e v = unmoved adding (λ σ old new h. rw (e, v))
+    add_judged (Ok _) e v = absurd v
 
-    module _ {status : Status} (e : status ≡ judgedStatus (judge t)) (z : status.number ≡ 0) where
-      pass : passes (judge t) ≡ true
-      pass = eq-eqb _ _ (sym (ap (λ (s : Status). s.number) e) ∙ z)
-
+    module _ (pass : judge t ≡ Ok tt) where
       -- 11
-      pub add_outside : {k : ℕ} {b : Bool} → b ≡ within rights (rights_of t) → b ≡ false → Applies adding d len k (Failed not_authorized) d
+      pub add_outside : {k : ℕ} {b : Bool} → b ≡ within rights (rights_of t) → b ≡ false → Applies adding (scratch d len k) (Err not_authorized) (scratch d len k)
       unfolding added given_if
       add_outside p q = unmoved adding (λ σ old new h. rw (pass, sym p ∙ q))
 
@@ -96,7 +96,7 @@ module _ (rights : Rights) (t : List ℕ) where
         in_signer : within rights (rights_of t) ≡ true
         in_signer = sym p ∙ q
 
-        module _ {key : List ℕ} (public : key ≡ public_key t) {found : Position}
+        module _ {key : List ℕ} (public : key ≡ public_key t) {found : Option ℕ}
             (search : found ≡ first_from 0 (is_sought PublicKey key) (map info_in (records_of (take len d)))) where
           found_in : (σ : Store) → Holds σ d len → first_from 0 (has_key (public_key t)) (anchors σ) ≡ found
           unfolding is_sought
@@ -105,7 +105,7 @@ module _ (rights : Rights) (t : List ℕ) where
           key_stored : (σ : Store) → Holds σ d len → any_of (has_key (public_key t)) (anchors σ) ≡ is_at found
           key_stored σ h = sym (first_any (has_key (public_key t)) 0 (anchors σ)) ∙ ap is_at (found_in σ h)
 
-          module _ {j : ℕ} (there : found ≡ At j) {s : List ℕ} (info : s ≡ info_at (take len d) j) {a : Bool} (equal : a ≡ same s t) where
+          module _ {j : ℕ} (there : found ≡ Some j) {s : List ℕ} (info : s ≡ info_at (take len d) j) {a : Bool} (equal : a ≡ same s t) where
             -- the anchor found is the only one that can have t's octets
             octets_stored : (σ : Store) → Holds σ d len → any_of (λ b. same b.info t) (anchors σ) ≡ a
             octets_stored σ h =
@@ -117,7 +117,7 @@ module _ (rights : Rights) (t : List ℕ) where
                 ∙ sym equal
 
             -- "0 with no change if the same octets are stored"
-            pub add_same : {k : ℕ} → a ≡ true → Applies adding d len k (Done len k) d
+            pub add_same : {k : ℕ} → a ≡ true → Applies adding (scratch d len k) (Ok tt) (scratch d len k)
             unfolding added given_if
             add_same y =
                 record {
@@ -128,14 +128,14 @@ module _ (rights : Rights) (t : List ℕ) where
                 }
 
             -- "20 if the public key is stored otherwise"
-            pub add_key : {k : ℕ} → a ≡ false → Applies adding d len k (Failed improper_ta_addition) d
+            pub add_key : {k : ℕ} → a ≡ false → Applies adding (scratch d len k) (Err improper_ta_addition) (scratch d len k)
             unfolding added given_if
             add_key y =
                 unmoved adding (λ σ old new h.
                 let τ = with_others (old ++ new) σ in
                 rw (pass, in_signer, octets_stored τ h.holds ∙ y, key_stored τ h.holds ∙ ap is_at there))
 
-          module _ (nowhere : found ≡ Nothing) where
+          module _ (nowhere : found ≡ None) where
             no_key : (σ : Store) → Holds σ d len → any_of (has_key (public_key t)) (anchors σ) ≡ false
             no_key σ h = key_stored σ h ∙ ap is_at nowhere
 
@@ -143,7 +143,7 @@ module _ (rights : Rights) (t : List ℕ) where
             no_octets σ h = octets_nowhere t (anchors σ) (no_key σ h)
 
             -- "17 at 32 anchors"
-            pub add_full : {k n : ℕ} → n ≡ anchor_count (take len d) → 32 ≤ n → Applies adding d len k (Failed insufficient_memory) d
+            pub add_full : {k n : ℕ} → n ≡ anchor_count (take len d) → 32 ≤ n → Applies adding (scratch d len k) (Err insufficient_memory) (scratch d len k)
             unfolding added given_if
             add_full c y =
                 unmoved adding (λ σ old new h.
@@ -179,7 +179,7 @@ module _ (rights : Rights) (t : List ℕ) where
                     fits = rw e at (fits σ σ.others [] (rw e w.holds));
                   }
 
-              pub add_appends : {k r : ℕ} {d' : List ℕ} → Appends d len t r d' → Applies adding d len k (Done r k) d'
+              pub add_appends : {k r : ℕ} {d' : List ℕ} → Appends d len t r d' → Applies adding (scratch d len k) (Ok tt) (scratch d' r k)
               add_appends w =
                   record {
                     room = w.room;

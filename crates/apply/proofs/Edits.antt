@@ -1,9 +1,9 @@
 -- The edits of a scratch image (crate edit) make the steps of the rule book (protocol, specs/Contract/Update and specs/Contract/Effect).
+use Rattle.std.specs.Prelude.{Some}
 use Prim.Native.Nat.{ℕ, zero, suc, ◌<◌}
 use native.Mathlib.Omega.{arith}
 use mathlib.Core.Bool.{true}
 use mathlib.Core.List.{List, [], ◌∷◌, ◌++◌}
-use mathlib.Core.Option.{some}
 use mathlib.Core.Path.{◌≡◌, refl, sym, ap, ◌∙◌}
 use lib.ListN.{length, get_or, take, drop}
 use lib.Seq.{split_at, length-take-le}
@@ -37,7 +37,7 @@ numbered-image σ (suc i) n = refl
 
 -- "its number becomes the signer's"
 pub set-number_law : (σ : Store) → well_formed σ ≡ true → (i n : ℕ) → i < length (anchors σ)
-    → placed (encode σ) (place_of (encode σ) i) (encode_number (some n)) ≡ encode (with_number i n σ)
+    → placed (encode σ) (place_of (encode σ) i) (encode_number (Some n)) ≡ encode (with_number i n σ)
 unfolding encode
 set-number_law σ g i n h =
     let l = anchors σ in
@@ -48,8 +48,8 @@ set-number_law σ g i n h =
     let rest = encode_section encode_name σ.communities in
     let e = split_at l i σ.apex h in
     let c : length x ≡ i = length-take-le i l (omega arith) in
-    ap (λ (p : ℕ). placed (encode σ) p (encode_number (some n))) (ap (place_of (encode σ)) (sym c) ∙ place_is σ g x (a ∷ y) e)
-    ∙ ap (λ (r : List Anchor). placed (dev ++ (encode_section encode_anchor r ++ rest)) (up_to σ x) (encode_number (some n))) e
+    ap (λ (p : ℕ). placed (encode σ) p (encode_number (Some n))) (ap (place_of (encode σ)) (sym c) ∙ place_is σ g x (a ∷ y) e)
+    ∙ ap (λ (r : List Anchor). placed (dev ++ (encode_section encode_anchor r ++ rest)) (up_to σ x) (encode_number (Some n))) e
     ∙ number-placed dev rest x y a n
     ∙ ap (λ (r : List Anchor). dev ++ (encode_section encode_anchor r ++ rest)) (sym (number_set_split i n l σ.apex h))
     ∙ numbered-image σ i n

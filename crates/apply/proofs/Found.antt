@@ -1,4 +1,5 @@
 -- What a search gives, and what it tells of lists in which one member alone passes.
+use Rattle.std.specs.Prelude.{Some, None}
 use Prim.Native.Nat.{ℕ, suc, ◌+◌, ◌≤◌, ◌<◌}
 use native.Mathlib.Omega.{arith}
 use mathlib.Core.Bool.{Bool, true, false, not, ◌&&◌, ◌||◌}
@@ -7,7 +8,6 @@ use mathlib.Core.Path.{◌≡◌, refl, sym, ap, ap₂, ◌∙◌}
 use lib.ListN.{length}
 use Rattle.octets.specs.Lists.{any_of, filter}
 use Rattle.octets.proofs.Lists.{by_test, neither, keep_in, keep_out}
-use Rattle.store.specs.declared.Position.TheVariants.{At, Nothing}
 use Rattle.store.specs.Contract.Parts.{first_from}
 use Rattle.store.proofs.Walk.{first_here, first_later}
 use Rattle.protocol.proofs.Lists.{any_of-append, keep_append}
@@ -20,10 +20,10 @@ first_map f p i (x ∷ l) =
     (λ t. first_here p i (f x) (map f l) t ∙ sym (first_here (λ x. p (f x)) i x l t))
     (λ t. first_later p i (f x) (map f l) t ∙ first_map f p (suc i) l ∙ sym (first_later (λ x. p (f x)) i x l t))
 
-at_same : (i j : ℕ) → At i ≡ At j → i ≡ j
+at_same : (i j : ℕ) → Some i ≡ Some j → i ≡ j
 at_same i j e = cc
 
-nothing_at : {P : Type 0} (j : ℕ) → Nothing ≡ At j → P
+nothing_at : {P : Type 0} (j : ℕ) → None ≡ Some j → P
 nothing_at j e = let z : ◌≡◌ {A = ℕ} 0 1 = cc in absurd (omega arith)
 
 -- the first member that passes, and the members around it
@@ -37,7 +37,7 @@ pub record First {A : Type 0} (p : A → Bool) (l : List A) (k : ℕ) : Type 0 w
   pub fails : any_of p before ≡ false
 
 module _ {A : Type 0} (p : A → Bool) where
-  pub first_at : (i j : ℕ) (l : List A) → first_from i p l ≡ At j → (k : ℕ) × (j ≡ i + k) × First p l k
+  pub first_at : (i j : ℕ) (l : List A) → first_from i p l ≡ Some j → (k : ℕ) × (j ≡ i + k) × First p l k
   unfolding first_from any_of
   first_at i j [] e = nothing_at j e
   first_at i j (x ∷ l) e =
@@ -71,13 +71,13 @@ module _ {A : Type 0} (p : A → Bool) where
       ))
 
   -- the first of a list, or a later one
-  pub head_found : (x : A) (l : List A) → first_from 0 p (x ∷ l) ≡ At 0 → p x ≡ true
+  pub head_found : (x : A) (l : List A) → first_from 0 p (x ∷ l) ≡ Some 0 → p x ≡ true
   head_found x l e =
       by_test (p x)
       (λ t. t)
       (λ t. let f = first_at 1 0 l (sym (first_later p 0 x l t) ∙ e) in absurd (omega (arith, f.1)))
 
-  pub later-found : (x : A) (l : List A) (j : ℕ) → first_from 0 p (x ∷ l) ≡ At j → (j ≡ 0 → ⊥) → (p x ≡ false) × ((k : ℕ) × (j ≡ suc k) × First p l k)
+  pub later-found : (x : A) (l : List A) (j : ℕ) → first_from 0 p (x ∷ l) ≡ Some j → (j ≡ 0 → ⊥) → (p x ≡ false) × ((k : ℕ) × (j ≡ suc k) × First p l k)
   later-found x l j e n =
       by_test (p x)
       (λ t. absurd (n (sym (at_same 0 j (sym (first_here p 0 x l t) ∙ e)))))
@@ -86,11 +86,6 @@ module _ {A : Type 0} (p : A → Bool) where
       (t, (k, omega (arith, q), f)))
 
   -- one member passes alone
-
-  pub any_here : (x y : List A) (a : A) → p a ≡ true → any_of p (x ++ (a ∷ y)) ≡ true
-  unfolding any_of
-  any_here [] y a t = rw t
-  any_here (b ∷ x) y a t = by_test (p b) (λ u. rw u) (λ u. rw u (any_here x y a t))
 
   pub any_less : (q : A → Bool) (l : List A) → any_of p l ≡ false → any_of (λ b. p b && q b) l ≡ false
   unfolding any_of

@@ -1,4 +1,5 @@
 -- What is read from a scratch that holds a store, and what the edits leave in it.
+use Rattle.std.specs.Prelude.{Option}
 use Prim.Native.Nat.{ℕ, suc, ◌+◌, ◌-◌, ◌≤◌, ◌<◌}
 use native.Mathlib.Omega.{arith}
 use mathlib.Core.Bool.{true}
@@ -9,7 +10,6 @@ use lib.Seq.{split_at, length-take-le}
 use Rattle.octets.specs.Octets.{placed}
 use Rattle.octets.specs.Number.{big_endian}
 use Rattle.octets.proofs.Placed.{length-placed}
-use Rattle.store.specs.declared.Position.{Position}
 use Rattle.store.specs.declared.Sought.{Sought}
 use Rattle.store.specs.Store.{Anchor, Store, anchors}
 use Rattle.store.specs.Image.{encode_number, encode_anchor, encode, well_formed}
@@ -44,7 +44,7 @@ module _ (σ : Store) (d : List ℕ) (len : ℕ) (h : Holds σ d len) where
   few e = let n = (rules σ h.valid).anchor_count_lem in (omega (arith, counted), omega (arith, counted))
 
   -- a search in the image is the search in its store
-  pub search_is : (by : Sought) (wanted : List ℕ) {p : Position} → p ≡ first_from 0 (is_sought by wanted) (map info_in (records_of (take len d)))
+  pub search_is : (by : Sought) (wanted : List ℕ) {p : Option ℕ} → p ≡ first_from 0 (is_sought by wanted) (map info_in (records_of (take len d)))
       → first_from 0 (λ a. is_sought by wanted a.info) (anchors σ) ≡ p
   search_is by wanted f =
       let infos = ap (λ (s : List ℕ). map info_in (records_of s)) h.image ∙ of_anchors (λ a. a.info) (encode σ) σ (decode-encode σ h.valid) in

@@ -10,7 +10,6 @@ pub mod Numbers
 pub mod Signer
 pub mod Pairs
 pub mod Updates
-pub mod Oids
 pub mod Sections
 pub mod Additions
 pub mod TwoLists

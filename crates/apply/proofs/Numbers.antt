@@ -1,9 +1,9 @@
 -- 01, After acceptance, Update: "tampSeqNumbers in order: each sets the number of every anchor with that identifier that this message appended and that still stands".
+use Rattle.std.specs.Prelude.{Some}
 use Prim.Native.Nat.{ℕ, suc, ◌+◌, ◌≤◌, ◌<◌}
 use native.Mathlib.Omega.{arith}
 use mathlib.Core.Bool.{Bool, true, false}
 use mathlib.Core.List.{List, [], ◌∷◌, ◌++◌, map, append_assoc, append-nil}
-use mathlib.Core.Option.{some}
 use mathlib.Core.Path.{◌≡◌, refl, sym, ap, ap₂, ◌∙◌}
 use lib.ListN.{length, take, length-append}
 use Rattle.octets.specs.Limits.{max_number}
@@ -22,7 +22,7 @@ use Rattle.protocol.specs.Update.{numbered, with_seq_number}
 use Rattle.protocol.specs.Effect.{number_set, with_number}
 use Rattle.protocol.proofs.WellFormed.{Good, valid_with_number}
 use Rattle.apply.specs.Contract.Scratch.{Holds, HoldsBoth, ScratchBoth}
-use Rattle.apply.specs.Contract.Edits.{CanNumber, NumbersAt, Renumbers}
+use Rattle.apply.specs.Contract.Edits.{CanNumber, NumbersAt}
 use Rattle.apply.proofs.Edits.{number_set_at, set-number_law}
 use Rattle.apply.proofs.Held.{counted, record_end_is, inside_is}
 use Rattle.apply.proofs.Held as held
@@ -77,13 +77,13 @@ module _ {d : List ℕ} {len p n : ℕ} (w : CanNumber d len p n) where
               rw (t, ← e) h;
         }
 
-    pub stamp_set : b ≡ true → {d' : List ℕ} → d' ≡ placed d p (encode_number (some n)) → NumbersAt d len p id n d'
+    pub stamp_set : b ≡ true → {d' : List ℕ} → d' ≡ placed d p (encode_number (Some n)) → NumbersAt d len p id n d'
     unfolding with_seq_number with_number
     stamp_set y {d'} k =
-        let z = length-encode_number (some n) in
+        let z = length-encode_number (Some n) in
         let b = stamp_inside in
         let j = w.holds.inside in
-        let l : length d' ≡ length d = ap length k ∙ length-placed d p (encode_number (some n)) (omega arith) in
+        let l : length d' ≡ length d = ap length k ∙ length-placed d p (encode_number (Some n)) (omega arith) in
         record {
           room = l;
           stamps = λ σ x v a h e q.
@@ -93,8 +93,8 @@ module _ {d : List ℕ} {len p n : ℕ} (w : CanNumber d len p n) where
               (record {
                 image =
                     ap (take len) k
-                    ∙ take-placed d len p (encode_number (some n)) (omega arith) j
-                    ∙ ap₂ (λ (s : List ℕ) (o : ℕ). placed s o (encode_number (some n))) h.image q
+                    ∙ take-placed d len p (encode_number (Some n)) (omega arith) j
+                    ∙ ap₂ (λ (s : List ℕ) (o : ℕ). placed s o (encode_number (Some n))) h.image q
                     ∙ set-number_law σ h.valid (suc (length x)) n m
                     ∙ ap (λ (r : List Anchor). encode (with_others r σ)) (ap (number_set (length x) n) e ∙ number_set_at n x v a);
                 inside = omega (arith, h.inside);
@@ -107,10 +107,6 @@ module _ {d : List ℕ} {len p n : ℕ} (w : CanNumber d len p n) where
 first_of : {A : Type 0} (l : List A) → 1 ≤ length l → (a : A) × (r : List A) × (l ≡ a ∷ r)
 first_of [] h = absurd (omega arith)
 first_of (a ∷ r) h = (a, r, refl)
-
-none_of : {A : Type 0} (l : List A) → length l ≤ 0 → l ≡ []
-none_of [] h = refl
-none_of (a ∷ r) h = absurd (omega arith)
 
 module _ (id : List ℕ) (n : ℕ) (d₀ : List ℕ) (len k count : ℕ) where
   abbrev set : Anchor → Anchor
@@ -176,22 +172,6 @@ module _ (id : List ℕ) (n : ℕ) (d₀ : List ℕ) (len k count : ℕ) where
       }
 
   module _ {d : List ℕ} {j p : ℕ} (w : Numbering d j p) where
-    pub numbering_scratch : ScratchBoth d₀ len k → len ≤ length d
-    numbering_scratch s = omega (arith, w.room, s.holds.holds.inside)
-
-    pub numbering_few : ScratchBoth d₀ len k → j ≤ count → j ≤ 32
-    numbering_few s h =
-        let v = w.seen s.store s.old s.new s.holds in
-        let τ = with_others (s.old ++ (v.done ++ v.rest)) s.store in
-        omega (
-          arith,
-          (rules τ v.holds.holds.valid).anchor_count_lem,
-          length-append s.old (v.done ++ v.rest),
-          length-append v.done v.rest,
-          v.at,
-          v.holds.count,
-        )
-
     module _ (more : j < count) where
       pub numbering_able : ScratchBoth d₀ len k → n ≤ max_number → CanNumber d len p n
       numbering_able s b =
@@ -244,17 +224,6 @@ module _ (id : List ℕ) (n : ℕ) (d₀ : List ℕ) (len k count : ℕ) where
 
         pub numbering_on : Numbering d' (j + 1) p'
         numbering_on = record { room = s.room ∙ w.room; seen = λ σ old new h. seen_on σ old new (w.seen σ old new h) }
-
-    pub numbering_end : count ≤ j → Renumbers (map set) d₀ len k d
-    numbering_end z =
-        record {
-          room = w.room;
-          does = λ σ old new h.
-              let v = w.seen σ old new h in
-              let r = none_of v.rest (omega (arith, v.left)) in
-              let e : map set new ≡ v.done ++ v.rest = v.parts ∙ ap (λ (l : List Anchor). v.done ++ map set l) r ∙ ap (λ (l : List Anchor). v.done ++ l) (sym r) in
-              rw e v.holds;
-        }
 
 pub old_few : {d : List ℕ} {len k : ℕ} → ScratchBoth d len k → k ≤ 32
 old_few s =

@@ -1,4 +1,5 @@
 -- 01, After acceptance, remove: one law for each way through its checks.
+use Rattle.std.specs.Prelude.{Option, Some, None, Ok, Err}
 use Prim.Native.Nat.{ℕ, suc, ◌+◌, ◌≤◌, ◌<◌}
 use native.Mathlib.Omega.{arith}
 use mathlib.Core.Bool.{Bool, true, false, not, ◌&&◌}
@@ -14,8 +15,6 @@ use Rattle.octets.proofs.Lists.{by_test, distinct_parts}
 use Rattle.rights.specs.Rights.{Rights}
 use Rattle.rights.specs.Decision.{within}
 use Rattle.anchor.specs.Info.{rights_of}
-use Rattle.store.specs.declared.Position.{Position}
-use Rattle.store.specs.declared.Position.TheVariants.{At, Nothing}
 use Rattle.store.specs.declared.Sought.TheVariants.{TaggedPublicKey}
 use Rattle.store.specs.Store.{Anchor, Store, anchors, public_key_of}
 use Rattle.store.specs.Records.{records_of}
@@ -25,7 +24,6 @@ use Rattle.store.specs.Steps.{with_others}
 use Rattle.protocol.specs.Update.{Step, has_key, without, removed}
 use Rattle.protocol.proofs.Lists.{keep_append}
 use Rattle.protocol.proofs.WellFormed.{ValidAnchors, valid_removed}
-use Rattle.apply.specs.declared.update.Applied.TheVariants.{Done, Failed}
 use Rattle.apply.specs.Contract.Scratch.{Holds, Scratch, info_at}
 use Rattle.apply.specs.Contract.Edits.{CanRemove, RemovesAnchor}
 use Rattle.anchor.specs.Info.{untagged}
@@ -33,7 +31,7 @@ use Rattle.apply.specs.Contract.Entry.{Applies}
 use Rattle.apply.proofs.Held.{search_is, info_is}
 use Rattle.apply.proofs.Found.{First, head_found, later-found, any_one, keep_rest, kept_front}
 use Rattle.apply.proofs.Stored.{key_once}
-use Rattle.apply.proofs.Adds.{with_anchors, valid_anchors, unmoved}
+use Rattle.apply.proofs.Adds.{scratch, with_anchors, valid_anchors, unmoved}
 
 module _ (rights : Rights) (wanted : List ℕ) where
   abbrev removing : Anchor → List Anchor → List Anchor → Step
@@ -42,13 +40,13 @@ module _ (rights : Rights) (wanted : List ℕ) where
   abbrev wanted_in : Anchor → Bool
   wanted_in = has_key (untagged wanted)
 
-  module _ (d : List ℕ) (len : ℕ) {p : Position} (f : p ≡ first_from 0 (is_sought TaggedPublicKey wanted) (map info_in (records_of (take len d)))) where
+  module _ (d : List ℕ) (len : ℕ) {p : Option ℕ} (f : p ≡ first_from 0 (is_sought TaggedPublicKey wanted) (map info_in (records_of (take len d)))) where
     found_in : (σ : Store) → Holds σ d len → first_from 0 wanted_in (anchors σ) ≡ p
     unfolding is_sought
     found_in σ h = search_is σ d len h TaggedPublicKey wanted f
 
     -- 25
-    pub remove_none : {k : ℕ} → p ≡ Nothing → Applies removing d len k (Failed trust_anchor_not_found) d
+    pub remove_none : {k : ℕ} → p ≡ None → Applies removing (scratch d len k) (Err trust_anchor_not_found) (scratch d len k)
     unfolding removed given_if
     remove_none e =
         unmoved removing (λ σ old new h.
@@ -56,17 +54,17 @@ module _ (rights : Rights) (wanted : List ℕ) where
         let n : any_of wanted_in (anchors τ) ≡ false = sym (first_any wanted_in 0 (anchors τ)) ∙ ap is_at (found_in τ h.holds ∙ e) in
         rw n)
 
-    module _ {j : ℕ} (e : p ≡ At j) where
+    module _ {j : ℕ} (e : p ≡ Some j) where
       is_there : (σ : Store) → Holds σ d len → any_of wanted_in (anchors σ) ≡ true
       is_there σ h = sym (first_any wanted_in 0 (anchors σ)) ∙ ap is_at (found_in σ h ∙ e)
 
       -- 19
-      pub remove_apex : {k : ℕ} → j ≡ 0 → Applies removing d len k (Failed apex_tamp_anchor) d
+      pub remove_apex : {k : ℕ} → j ≡ 0 → Applies removing (scratch d len k) (Err apex_tamp_anchor) (scratch d len k)
       unfolding removed given_if
       remove_apex z =
           unmoved removing (λ σ old new h.
           let τ = with_others (old ++ new) σ in
-          let a = head_found wanted_in σ.apex (old ++ new) (found_in τ h.holds ∙ e ∙ ap At z) in
+          let a = head_found wanted_in σ.apex (old ++ new) (found_in τ h.holds ∙ e ∙ ap Some z) in
           rw (is_there τ h.holds, a))
 
       module _ (n : j ≡ 0 → ⊥) where
@@ -112,7 +110,7 @@ module _ (rights : Rights) (wanted : List ℕ) where
 
         -- 11
         pub remove_outside : {k : ℕ} {t : List ℕ} → t ≡ info_at (take len d) j → {b : Bool} → b ≡ within rights (rights_of t) → b ≡ false
-            → Applies removing d len k (Failed not_authorized) d
+            → Applies removing (scratch d len k) (Err not_authorized) (scratch d len k)
         unfolding removed given_if
         remove_outside q w y =
             unmoved removing (λ σ old new h.
@@ -144,7 +142,7 @@ module _ (rights : Rights) (wanted : List ℕ) where
           abbrev left : ℕ → ℕ → Type 0
           left k m = (j ≤ k → m + 1 ≡ k) × (k < j → m ≡ k)
 
-          pub remove_cuts : {k m r : ℕ} {d' : List ℕ} → left k m → RemovesAnchor d len j r d' → Applies removing d len k (Done r m) d'
+          pub remove_cuts : {k m r : ℕ} {d' : List ℕ} → left k m → RemovesAnchor d len j r d' → Applies removing (scratch d len k) (Ok tt) (scratch d' r m)
           remove_cuts {k} {m} {r} {d'} c u =
               record {
                 room = u.room;

@@ -1,11 +1,11 @@
 -- A section of communities that is being put together.
-use Prim.Native.Nat.{ℕ, zero, suc, ◌+◌, ◌-◌, ◌*◌, ◌≤◌, ◌<◌}
+use Prim.Native.Nat.{ℕ, ◌+◌, ◌-◌, ◌*◌, ◌≤◌, ◌<◌}
 use native.Mathlib.Omega.{arith}
 use native.Mathlib.Nat.{mul-suc}
 use mathlib.Core.Bool.{Bool, true, false, not, and-eq-true_iff}
 use mathlib.Core.List.{List, [], ◌∷◌, ◌++◌, flat_map, append_assoc, append-nil}
 use mathlib.Core.Path.{◌≡◌, refl, sym, ap, ap₂, ◌∙◌}
-use lib.ListN.{length, take, drop, length-append}
+use lib.ListN.{length, take, length-append}
 use lib.Seq.{length-take-le, get_or-take}
 use lib.Dec.{leb}
 use borrow.Author.Tests.{leb-true}
@@ -15,8 +15,7 @@ use Rattle.octets.specs.Octets.{octet, member, placed}
 use Rattle.octets.proofs.Placed.{length-placed}
 use Rattle.octets.proofs.Lists.{keep_in, keep_out, keep_length}
 use Rattle.store.specs.Image.{encode_name, encode_section}
-use Rattle.store.specs.Contract.Parts.{community_count, community_octets, name_end, name_at, names_from, communities_of}
-use Rattle.store.proofs.Walk.{names_turn}
+use Rattle.store.specs.Contract.Parts.{communities_of}
 use Rattle.store.proofs.Standing.{flat_map_append}
 use Rattle.edit.specs.Contract.Edits.{recounted}
 use Rattle.edit.proofs.Replaced.{section_replaced, take-all-placed}
@@ -102,96 +101,51 @@ module _ (removals : List (List ℕ)) (name : List ℕ) where
             rw e (j.joins l s);
       }
 
-pub joinable_bounds : {d : List ℕ} {len : ℕ} {name : List ℕ} → Joinable d len name
-    → (0 < len) × (len + 0 ≤ len) × (len ≤ length d) × (len + (1 + length name) ≤ length d + 0)
-joinable_bounds {name = name} w = join_bounds w.section name w.few w.small
+-- the names of a list that are not removed, one after the other: `all` of them, and those that are left
 
-pub joinable_count : {d : List ℕ} {len : ℕ} {name : List ℕ} → Joinable d len name → (octet d 0 < 255) × (length name < 256)
-joinable_count w = (omega (arith, section_count w.section, w.few), omega (arith, w.small))
-
-names_count : (n : ℕ) (s : List ℕ) → length (names_from n s) ≡ n
-unfolding names_from
-names_count zero s = refl
-names_count (suc n) s = ap suc (names_count n (drop (1 + octet s 0) s))
-
--- the communities of an image, one after the other
-
-module _ (removals : List (List ℕ)) (octets : List ℕ) (count : ℕ) (names₀ : List ℕ) where
-  pub record Keeping (names : List ℕ) (len p left : ℕ) : Type 0 where
-    pub same_room : length names ≡ length names₀
+module _ (removals all : List (List ℕ)) where
+  pub record Keeping (names : List ℕ) (len : ℕ) (left : List (List ℕ)) : Type 0 where
     pub kept : List (List ℕ)
     pub section : Section names len kept
-    pub rest : kept ++ filter (stays removals) (names_from left (drop p octets)) ≡ filter (stays removals) (names_from count octets)
-    pub few : length kept + left ≤ max_communities
-    pub small : all_of (λ c. leb (length c) max_name_octets) (names_from left (drop p octets)) ≡ true
+    pub rest : kept ++ filter (stays removals) left ≡ filter (stays removals) all
+    pub few : length kept + length left ≤ max_communities
+    pub small : all_of (λ c. leb (length c) max_name_octets) left ≡ true
 
-  module _ {names : List ℕ} {len p left : ℕ} (w : Keeping names len p left) (more : 0 < left) where
-    turn : names_from left (drop p octets) ≡ name_at octets p ∷ names_from (left - 1) (drop (name_end octets p) octets)
-    turn =
-        let e : left ≡ suc (left - 1) = omega arith in
-        ap (λ (n : ℕ). names_from n (drop p octets)) e ∙ names_turn octets (left - 1) p
+  module _ {names : List ℕ} {len : ℕ} {left : List (List ℕ)} (w : Keeping names len left) where
+    module _ {name : List ℕ} {after : List (List ℕ)} (turn : left ≡ name ∷ after) where
+      smalls : (leb (length name) max_name_octets ≡ true) × (all_of (λ c. leb (length c) max_name_octets) after ≡ true)
+      unfolding all_of
+      smalls = (and-eq-true_iff _ _).0 (rw turn at w.small)
 
-    abbrev after : List (List ℕ)
-    after = names_from (left - 1) (drop (name_end octets p) octets)
-
-    smalls : (leb (length (name_at octets p)) max_name_octets ≡ true) × (all_of (λ c. leb (length c) max_name_octets) after ≡ true)
-    unfolding all_of
-    smalls = (and-eq-true_iff _ _).0 (rw turn at w.small)
-
-    pub keeping_joinable : {name : List ℕ} → name ≡ name_at octets p → Joinable names len name
-    keeping_joinable e =
-        record {
-          names = w.kept;
-          section = w.section;
-          few = omega (arith, w.few);
-          small = rw e (leb-true _ _ smalls.0);
-        }
-
-    module _ {name : List ℕ} (e : name ≡ name_at octets p) {r : ℕ} {names' : List ℕ} (k : KeepsName removals names len name r names')
-        {q : ℕ} (n : q ≡ name_end octets p) where
-      pub keeping_on : Keeping names' r q (left - 1)
-      keeping_on =
-          let one = filter (stays removals) (name ∷ []) in
-          let t : filter (stays removals) (names_from left (drop p octets)) ≡ one ++ filter (stays removals) after =
-          ap (filter (stays removals)) (turn ∙ ap (λ (v : List ℕ). v ∷ after) (sym e)) ∙ keep_append (stays removals) (name ∷ []) after
-          in
-          let c = keep_length (stays removals) (name ∷ []) in
+      pub keeping_joinable : Joinable names len name
+      keeping_joinable =
           record {
-            same_room = k.same_room ∙ w.same_room;
-            kept = w.kept ++ one;
-            section = k.keeps w.kept w.section;
-            rest =
-                append_assoc w.kept one (filter (stays removals) (names_from (left - 1) (drop q octets)))
-                ∙ ap (λ (m : ℕ). w.kept ++ (one ++ filter (stays removals) (names_from (left - 1) (drop m octets)))) n
-                ∙ ap (λ (v : List (List ℕ)). w.kept ++ v) (sym t)
-                ∙ w.rest;
-            few = omega (arith, w.few, length-append w.kept one, c);
-            small = rw n smalls.1;
+            names = w.kept;
+            section = w.section;
+            few = omega (arith, w.few, ap length turn);
+            small = leb-true _ _ smalls.0;
           }
 
-  pub keeping_end : {names : List ℕ} {len p left : ℕ} → Keeping names len p left → left ≤ 0
-      → Section names len (filter (stays removals) (names_from count octets))
-  unfolding names_from filter
-  keeping_end {left = left} w h =
-      let z : left ≡ 0 = omega arith in
-      let e : w.kept ≡ filter (stays removals) (names_from count octets) = sym (append-nil w.kept) ∙ (rw z at w.rest) in
-      rw (← e) w.section
+      pub keeping_on : {r : ℕ} {names' : List ℕ} → KeepsName removals names len name r names' → Keeping names' r after
+      keeping_on k =
+          let one = filter (stays removals) (name ∷ []) in
+          let t : filter (stays removals) left ≡ one ++ filter (stays removals) after =
+          ap (filter (stays removals)) turn ∙ keep_append (stays removals) (name ∷ []) after
+          in
+          record {
+            kept = w.kept ++ one;
+            section = k.keeps w.kept w.section;
+            rest = append_assoc w.kept one (filter (stays removals) after) ∙ ap (λ (v : List (List ℕ)). w.kept ++ v) (sym t) ∙ w.rest;
+            few = omega (arith, w.few, ap length turn, length-append w.kept one, keep_length (stays removals) (name ∷ []));
+            small = smalls.1;
+          }
 
-pub keeping_start : (removals : List (List ℕ)) (image names : List ℕ) → FewNames image → Section names 1 []
-    → {octets : List ℕ} → octets ≡ community_octets image → {count : ℕ} → count ≡ community_count image
-    → Keeping removals octets count names names 1 0 count
-unfolding communities_of
-keeping_start removals image names f s {octets} e {count} c =
-    let t : communities_of image ≡ names_from count octets = ap₂ names_from (sym c) (sym e) in
-    record {
-      same_room = refl;
-      kept = [];
-      section = s;
-      rest = refl;
-      few = omega (arith, f.few, ap length t, names_count count octets);
-      small = rw t at f.small;
-    }
+    pub keeping_end : left ≡ [] → Section names len (filter (stays removals) all)
+    unfolding filter
+    keeping_end z =
+        let e : w.kept ≡ filter (stays removals) all = sym (append-nil w.kept) ∙ (rw z at w.rest) in
+        rw (← e) w.section
 
-pub names_of : (image : List ℕ) {octets : List ℕ} → octets ≡ community_octets image → {count : ℕ} → count ≡ community_count image → communities_of image ≡ names_from count octets
-unfolding communities_of
-names_of image e c = ap₂ names_from (sym c) (sym e)
+pub keeping_start : (removals : List (List ℕ)) (image names : List ℕ) {len : ℕ} → FewNames image → Section names len []
+    → Keeping removals (communities_of image) names len (communities_of image)
+keeping_start removals image names f s = record { kept = []; section = s; rest = refl; few = omega (arith, f.few); small = f.small }

@@ -1,9 +1,9 @@
 -- The signer's number in the next store, and the effects of the rule book after it.
+use Rattle.std.specs.Prelude.{Some, Result}
 use Prim.Native.Nat.{ℕ, suc, ◌+◌, ◌≤◌, ◌<◌}
 use native.Mathlib.Omega.{arith}
 use mathlib.Core.Bool.{true}
 use mathlib.Core.List.{List, [], ◌∷◌}
-use mathlib.Core.Option.{some}
 use mathlib.Core.Path.{◌≡◌, sym, ap, ap₂, subst, ◌∙◌}
 use lib.ListN.{length, take, drop, get_or, length-map}
 use lib.Seq.{split_at, length-take-le}
@@ -36,6 +36,8 @@ use Rattle.accept.specs.Contract.Signer.{signer_at, signer_rights}
 use Rattle.accept.proofs.Anchors.{rights_at_lem}
 use Rattle.accept.proofs.OfStore.{store_read}
 use Rattle.apply.specs.declared.Done.{Done}
+use Rattle.apply.specs.declared.scratch.ScratchImage.{ScratchImage}
+use Rattle.apply.specs.Contract.Entry.{applied_status}
 use Rattle.apply.specs.Contract.Scratch.{Holds, Scratch}
 use Rattle.apply.specs.Contract.Update.{codes_of, UpdatedAs}
 use Rattle.apply.specs.Contract.Community.{CommunityDone}
@@ -43,10 +45,10 @@ use Rattle.apply.specs.Contract.Effect.{Signing, number_moved, Writes, Renumbere
 use Rattle.apply.proofs.Edits.{set-number_law}
 
 -- "The largest image is 33,717 octets."
-pub image_short : (image : List ℕ) (σ : Store) → Octets image → decode image ≡ some σ → length image ≤ image_room
+pub image_short : (image : List ℕ) (σ : Store) → Octets image → decode image ≡ Some σ → length image ≤ image_room
 image_short image σ o d = rw (encode-decode image σ o d) at (encode-length σ (decode-well_formed image σ d))
 
-some_same : {A : Type 0} {x y : A} → some x ≡ some y → x ≡ y
+some_same : {A : Type 0} {x y : A} → Some x ≡ Some y → x ≡ y
 some_same e = cc
 
 module _ {q : Request} {w : Signer} {image next : List ℕ} (oi : Octets image) (g : Signing q w image next) where
@@ -58,7 +60,7 @@ module _ {q : Request} {w : Signer} {image next : List ℕ} (oi : Octets image) 
   place_at = ap (λ (x : Signer). x.place) g.signer
 
   -- the store is the one that the image has
-  module _ (σ : Store) (d : decode image ≡ some σ) where
+  module _ (σ : Store) (d : decode image ≡ Some σ) where
     abbrev i : ℕ
     i = w.position
 
@@ -68,9 +70,9 @@ module _ {q : Request} {w : Signer} {image next : List ℕ} (oi : Octets image) 
     held : encode σ ≡ image
     held = encode-decode image σ oi d
 
-    number_in : placed image (place_of image i) (encode_number (some q.number)) ≡ encode (number_moved q w σ)
+    number_in : placed image (place_of image i) (encode_number (Some q.number)) ≡ encode (number_moved q w σ)
     number_in =
-        ap (λ (m : List ℕ). placed m (place_of m i) (encode_number (some q.number))) (sym held)
+        ap (λ (m : List ℕ). placed m (place_of m i) (encode_number (Some q.number))) (sym held)
         ∙ set-number_law σ (decode-well_formed image σ d) i q.number inside_of
 
     valid_after : well_formed (number_moved q w σ) ≡ true
@@ -94,11 +96,11 @@ module _ {q : Request} {w : Signer} {image next : List ℕ} (oi : Octets image) 
         let k = place_at in
         omega (arith, ap length c, length-placed next 0 image copy_fits, copy_fits)
 
-    pub renumbered : {next'' : List ℕ} → next'' ≡ placed next' w.place (encode_number (some q.number)) → Renumbered q w image next (length image) next''
+    pub renumbered : {next'' : List ℕ} → next'' ≡ placed next' w.place (encode_number (Some q.number)) → Renumbered q w image next (length image) next''
     renumbered {next''} x σ d =
         let p = place_of image w.position in
-        let n = encode_number (some q.number) in
-        let l = length-encode_number (some q.number) in
+        let n = encode_number (Some q.number) in
+        let l = length-encode_number (Some q.number) in
         let h = place_room σ d in
         let k = number_in σ d in
         record {
@@ -130,9 +132,6 @@ module _ {σ : Store} {d : List ℕ} {r : ℕ} {d' : List ℕ} (w : Writes σ d 
 
 -- a scratch image copied to the next store
 module _ {σ : Store} {d : List ℕ} {len : ℕ} (h : Holds σ d len) where
-  pub held_short : length (take len d) ≤ image_room
-  held_short = rw h.image (encode-length σ h.valid)
-
   pub copied : {next next' : List ℕ} → next' ≡ placed next 0 (take len d) → Writes σ next len next'
   copied {next} e =
       record {
@@ -142,12 +141,13 @@ module _ {σ : Store} {d : List ℕ} {len : ℕ} (h : Holds σ d len) where
       }
 
 -- Community Update
-module _ (s : List ℕ) (q : Request) (w : Signer) (image : List ℕ) {empty work : List ℕ} {len : ℕ} (r : Renumbered q w image empty len work)
-    (room : image_room ≤ length empty) {done : Done} {work' : List ℕ} (u : CommunityDone s q work len done work') where
-  pub community_effects : {next next' : List ℕ} → next' ≡ placed next 0 (take done.len work') → Effects (community_effect s q) q w image next done next'
-  community_effects c σ d =
+module _ (s : List ℕ) (q : Request) (w : Signer) (image : List ℕ) {empty : List ℕ} {work : ScratchImage} (r : Renumbered q w image empty work.len work.octets)
+    (room : image_room ≤ length empty) {done : Result (Unit {0}) Status} {work' : ScratchImage} (u : CommunityDone s q work done work') where
+  pub community_effects : {status : Status} → status ≡ applied_status done → {next next' : List ℕ} → next' ≡ placed next 0 (take work'.len work'.octets)
+      → Effects (community_effect s q) q w image next (record { status = status; len = work'.len }) next'
+  community_effects e c σ d =
       let h = written_holds (r σ d) room in
-      record { status = u.status (number_moved q w σ) h; writes = copied (u.store (number_moved q w σ) h) c }
+      record { status = e ∙ u.status (number_moved q w σ) h; writes = copied (u.store (number_moved q w σ) h) c }
 
 -- Update
 module _ (s : List ℕ) (q : Request) {n : ℕ} (counts : n ≡ length (inside s q.updates)) where
@@ -211,7 +211,7 @@ module _ (s : List ℕ) (q : Request) (rights : Rights) (w : Signer) (image : Li
       (h σ d)
 
 -- by the rights that the code reads, which are the signer's at acceptance
-rights_of_lem : {q : Request} {w : Signer} {image next : List ℕ} → Signing q w image next → (σ : Store) → decode image ≡ some σ → signer_rights image w ≡ rights_at σ w.position
+rights_of_lem : {q : Request} {w : Signer} {image next : List ℕ} → Signing q w image next → (σ : Store) → decode image ≡ Some σ → signer_rights image w ≡ rights_at σ w.position
 rights_of_lem {q} {w} {image} g σ d =
     let e : g.store ≡ σ = some_same (sym g.decodes ∙ d) in
     let inside : w.position < length (anchors σ) = rw e at g.inside in

@@ -1,4 +1,5 @@
 -- 01, After acceptance, Community Update.
+use Rattle.std.specs.Prelude.{Result, Ok, Err}
 use Prim.Native.Nat.{ℕ, ◌+◌, ◌≤◌, ◌<◌}
 use native.Mathlib.Omega.{arith}
 use mathlib.Core.Bool.{Bool, true, false, not, ◌&&◌}
@@ -36,12 +37,11 @@ use Rattle.protocol.specs.Community.{after_removals, after_additions, updated, c
 use Rattle.protocol.specs.Effect.{with_communities, community_effect}
 use Rattle.protocol.proofs.Lists.{any_of-append}
 use Rattle.protocol.proofs.WellFormed.{ValidCommunities, valid_communities}
-use Rattle.apply.specs.declared.Done.{Done}
-use Rattle.apply.specs.declared.community.Grown.{Grown}
-use Rattle.apply.specs.declared.community.Grown.TheVariants.{To, Full}
+use Rattle.apply.specs.declared.scratch.ScratchImage.{ScratchImage}
 use Rattle.apply.specs.Contract.Scratch.{Holds, Scratch}
 use Rattle.apply.specs.Contract.Names.{oids_from, Section, FewNames, AddableAll, AddsAll}
 use Rattle.apply.specs.Contract.Community.{CanUpdate, UpdatesCommunities, CommunityReady, CommunityDone}
+use Rattle.apply.proofs.Adds.{scratch}
 use Rattle.apply.proofs.Held as held
 use Rattle.apply.proofs.Sections.{section_count}
 
@@ -57,9 +57,9 @@ module _ (present : Bool) (removals additions : List (List ℕ)) (d : List ℕ) 
   unfolding communities_after
   same-communities l status e n = rw (ap (λ (v : Status). eqb v.number 0) e ∙ ne_eqb _ _ n, communities_after)
 
-  no_change : (status : Status) → (status.number ≡ 0 → ⊥)
+  no_change : {former : ℕ} (status : Status) → (status.number ≡ 0 → ⊥)
       → ((σ : Store) → Holds σ d len → community_status present removals additions σ.communities ≡ status)
-      → UpdatesCommunities present removals additions d len (record { status = status; len = len }) d
+      → UpdatesCommunities present removals additions (scratch d len former) (Err status) (scratch d len former)
   no_change status n e =
       record {
         room = refl;
@@ -68,21 +68,21 @@ module _ (present : Bool) (removals additions : List (List ℕ)) (d : List ℕ) 
       }
 
   -- 24
-  pub put_repeated : {b : Bool} → b ≡ not (distinct (removals ++ additions)) → b ≡ true
-      → UpdatesCommunities present removals additions d len (record { status = community_update_failed; len = len }) d
+  pub put_repeated : {former : ℕ} {b : Bool} → b ≡ not (distinct (removals ++ additions)) → b ≡ true
+      → UpdatesCommunities present removals additions (scratch d len former) (Err community_update_failed) (scratch d len former)
   unfolding community_status given_if
   put_repeated m t = no_change community_update_failed (λ z. absurd (omega arith)) (λ σ h. rw (sym m ∙ t))
 
   module _ (apart : not (distinct (removals ++ additions)) ≡ false) where
     -- 17: "an OID is over 32 octets"
-    pub put_long : any_of long (removals ++ additions) ≡ true → UpdatesCommunities present removals additions d len (record { status = insufficient_memory; len = len }) d
+    pub put_long : {former : ℕ} → any_of long (removals ++ additions) ≡ true → UpdatesCommunities present removals additions (scratch d len former) (Err insufficient_memory) (scratch d len former)
     unfolding community_status given_if
     put_long t = no_change insufficient_memory (λ z. absurd (omega arith)) (λ σ h. rw (apart, t))
 
     module _ (short : any_of long (removals ++ additions) ≡ false) where
       -- 17: "over 16 would remain"
-      pub put_many : ((σ : Store) → Holds σ d len → max_communities < length (updated present removals additions σ.communities))
-          → UpdatesCommunities present removals additions d len (record { status = insufficient_memory; len = len }) d
+      pub put_many : {former : ℕ} → ((σ : Store) → Holds σ d len → max_communities < length (updated present removals additions σ.communities))
+          → UpdatesCommunities present removals additions (scratch d len former) (Err insufficient_memory) (scratch d len former)
       unfolding community_status given_if
       put_many f = no_change insufficient_memory (λ z. absurd (omega arith)) (λ σ h. rw (apart, short, lt-ltb _ _ (f σ h)))
 
@@ -154,15 +154,14 @@ module _ (present : Bool) {removals additions : List (List ℕ)} {d : List ℕ} 
         small = (neither (any_of long removals) (any_of long additions) (sym (any_of-append long removals additions) ∙ w.short)).1;
       }
 
-  module _ {r : Grown} {names' : List ℕ} (a : AddsAll additions names k r names') where
-    pub put_full : r ≡ Full → UpdatesCommunities present removals additions d len (record { status = insufficient_memory; len = len }) d
+  module _ {r : Result (Unit {0}) Status} {n : ℕ} {names' : List ℕ} (a : AddsAll additions names k r n names') where
+    pub put_full : {former : ℕ} {status : Status} → r ≡ Err status → UpdatesCommunities present removals additions (scratch d len former) (Err status) (scratch d len former)
     unfolding after_additions
     put_full f =
-        put_many present removals additions d len apart_no w.short (λ σ h.
         let g = rw f at (a.adds (after_removals present removals (communities_of (take len d))) s) in
-        rw (← communities_are σ d len h) g)
+        rw g.0 (put_many present removals additions d len apart_no w.short (λ σ h. rw (← communities_are σ d len h) g.1))
 
-    module _ {n : ℕ} (t : r ≡ To n) where
+    module _ {x : Unit {0}} (t : r ≡ Ok x) where
       abbrev after : List (List ℕ)
       after = updated present removals additions (communities_of (take len d))
 
@@ -172,9 +171,6 @@ module _ (present : Bool) {removals additions : List (List ℕ)} {d : List ℕ} 
 
       few : length after ≤ max_communities
       few = omega (arith, a.few, section_count section)
-
-      pub put_names : n ≤ length names'
-      put_names = section.inside
 
       module _ (σ : Store) (h : Holds σ d len) where
         next : Store
@@ -215,11 +211,11 @@ module _ (present : Bool) {removals additions : List (List ℕ)} {d : List ℕ} 
             let z = held.size σ d len h in
             (omega arith, h.inside, omega (arith, encode-length (next σ h) (valid σ h), w.scratch.room))
 
-        pub put_done : {r : ℕ} {d' : List ℕ} → (r ≡ length (replaced (take len d) place old ([] ++ take n names')))
+        pub put_done : {former r : ℕ} {d' : List ℕ} → (r ≡ length (replaced (take len d) place old ([] ++ take n names')))
             × (d' ≡ placed d 0 (replaced (take len d) place old ([] ++ take n names')))
-            → UpdatesCommunities present removals additions d len (record { status = success; len = r }) d'
+            → UpdatesCommunities present removals additions (scratch d len former) (Ok tt) (scratch d' r former)
         unfolding next
-        put_done {r} {d'} e =
+        put_done {former} {r} {d'} e =
             let done : (σ : Store) (h : Holds σ d len) → (length d' ≡ length d) × Holds (next σ h) d' r =
             λ σ h.
             held.written d _ (new-image σ h) (valid σ h) (omega (arith, ap length (new-image σ h), encode-length (next σ h) (valid σ h), w.scratch.room)) e.0 e.1
@@ -233,7 +229,7 @@ module _ (present : Bool) {removals additions : List (List ℕ)} {d : List ℕ} 
 
 -- the message
 
-module _ (s : List ℕ) (q : Request) (d : List ℕ) (len : ℕ) {updates removals additions : Element} (u : updates ≡ q.updates)
+module _ (s : List ℕ) (q : Request) {updates removals additions : Element} (u : updates ≡ q.updates)
     (v : removals ≡ field 0xA1 s updates) (z : additions ≡ field 0xA2 s updates) where
   abbrev gone : List (List ℕ)
   gone = oids_from s removals.stop removals.start
@@ -241,7 +237,7 @@ module _ (s : List ℕ) (q : Request) (d : List ℕ) (len : ℕ) {updates remova
   abbrev come : List (List ℕ)
   come = oids_from s additions.stop additions.start
 
-  pub community_done : {r : Done} {d' : List ℕ} → UpdatesCommunities removals.valid gone come d len r d' → CommunityDone s q d len r d'
+  pub community_done : {w w' : ScratchImage} {r : Result (Unit {0}) Status} → UpdatesCommunities removals.valid gone come w r w' → CommunityDone s q w r w'
   unfolding community_effect remove_in additions_in oids_in
   community_done p =
       record {
@@ -250,7 +246,7 @@ module _ (s : List ℕ) (q : Request) (d : List ℕ) (len : ℕ) {updates remova
         store = λ σ h. rw (← u, ← v, ← z) (p.after σ h);
       }
 
-  pub community_puttable : CommunityReady s q d len → {b : Bool} → b ≡ not (distinct (gone ++ come)) → b ≡ false
+  pub community_puttable : {d : List ℕ} {len : ℕ} → CommunityReady s q d len → {b : Bool} → b ≡ not (distinct (gone ++ come)) → b ≡ false
       → {x : Bool} → x ≡ any_of long gone → x ≡ false → {y : Bool} → y ≡ any_of long come → y ≡ false → CanUpdate gone come d len
   unfolding additions_in oids_in
   community_puttable w m t f g h k =
@@ -262,14 +258,14 @@ module _ (s : List ℕ) (q : Request) (d : List ℕ) (len : ℕ) {updates remova
       }
 
   -- 24, and 17 for an OID over 32 octets
-  pub community_repeated : {b : Bool} → b ≡ not (distinct (gone ++ come)) → b ≡ true → CommunityDone s q d len (record { status = community_update_failed; len = len }) d
-  community_repeated m t = community_done (put_repeated removals.valid gone come d len m t)
+  pub community_repeated : {d : List ℕ} {len former : ℕ} {b : Bool} → b ≡ not (distinct (gone ++ come)) → b ≡ true → CommunityDone s q (scratch d len former) (Err community_update_failed) (scratch d len former)
+  community_repeated m t = community_done (put_repeated removals.valid gone come _ _ m t)
 
   module _ {b : Bool} (m : b ≡ not (distinct (gone ++ come))) (t : b ≡ false) where
-    pub community_long : {x : Bool} → x ≡ any_of long gone → x ≡ true → CommunityDone s q d len (record { status = insufficient_memory; len = len }) d
-    community_long f g = community_done (put_long removals.valid gone come d len (sym m ∙ t) (any_of-append long gone come ∙ rw (sym f ∙ g)))
+    pub community_long : {d : List ℕ} {len former : ℕ} {x : Bool} → x ≡ any_of long gone → x ≡ true → CommunityDone s q (scratch d len former) (Err insufficient_memory) (scratch d len former)
+    community_long f g = community_done (put_long removals.valid gone come _ _ (sym m ∙ t) (any_of-append long gone come ∙ rw (sym f ∙ g)))
 
-    pub community_longer : {x : Bool} → x ≡ any_of long gone → x ≡ false → {y : Bool} → y ≡ any_of long come → y ≡ true
-        → CommunityDone s q d len (record { status = insufficient_memory; len = len }) d
+    pub community_longer : {d : List ℕ} {len former : ℕ} {x : Bool} → x ≡ any_of long gone → x ≡ false → {y : Bool} → y ≡ any_of long come → y ≡ true
+        → CommunityDone s q (scratch d len former) (Err insufficient_memory) (scratch d len former)
     community_longer f g h k =
-        community_done (put_long removals.valid gone come d len (sym m ∙ t) (any_of-append long gone come ∙ rw (sym f ∙ g, sym h ∙ k)))
+        community_done (put_long removals.valid gone come _ _ (sym m ∙ t) (any_of-append long gone come ∙ rw (sym f ∙ g, sym h ∙ k)))

@@ -1,4 +1,5 @@
 -- 02, E3: what a rule charges is an identifier octet of what it reads.
+use Rattle.std.specs.Prelude.{Ok, Err}
 use Prim.Native.Nat.{ℕ, zero, suc, ◌≤◌, ◌<◌}
 use native.Mathlib.Omega.{arith}
 use mathlib.Core.Bool.{Bool, true, false, true≢false}
@@ -10,10 +11,8 @@ use borrow.Author.Tests.{ltb-true, ltb-false, eqb-false}
 use Rattle.octets.specs.Lists.{Among, first, later}
 use Rattle.octets.proofs.Lists.{by_test}
 use Rattle.der.specs.declared.Element.{Element}
-use Rattle.der.specs.declared.Fit.{Fit}
-use Rattle.der.specs.declared.Fit.TheVariants.{Fits, Breaks}
 use Rattle.der.specs.Element.{element_at, inside, root, contents, constructed}
-use Rattle.der.specs.Fit.{and_then, held, each_from, each}
+use Rattle.der.specs.Fit.{and_then, held, each_from, each, Fit}
 use Rattle.der.specs.Contents.{contents_ok}
 use Rattle.der.specs.Check.{sorted_in, der, spans}
 use Rattle.der.specs.Identifier.{IdentifierOctet, own, of_member}
@@ -24,13 +23,13 @@ use Rattle.der.proofs.Checks.{spans-none, spans_one}
 
 -- a break is the first rule's or the second's
 module _ {X : Type 0} {o : ℕ} where
-  pub then_charges : (f g : Fit) → (f ≡ Breaks o → X) → (f ≡ Fits → g ≡ Breaks o → X) → and_then f g ≡ Breaks o → X
+  pub then_charges : (f g : Fit) → (f ≡ Err o → X) → (f ≡ Ok tt → g ≡ Err o → X) → and_then f g ≡ Err o → X
   unfolding and_then
-  then_charges Fits g l r e = r refl e
-  then_charges (Breaks p) g l r e = l e
+  then_charges (Ok _) g l r e = r refl e
+  then_charges (Err p) g l r e = l e
 
   -- of a test it is the element that the test charges
-  pub held_charges : (at : ℕ) (b : Bool) → (b ≡ false → at ≡ o → X) → held at b ≡ Breaks o → X
+  pub held_charges : (at : ℕ) (b : Bool) → (b ≡ false → at ≡ o → X) → held at b ≡ Err o → X
   unfolding held
   held_charges at true f e = absurd (breaks≢fits (sym e))
   held_charges at false f e = f refl (cc)
@@ -38,8 +37,8 @@ module _ {X : Type 0} {o : ℕ} where
   -- of a run it is a member's header, or what the judge charges
   from_charges : (judge : Element → Element → Fit) (l : List Element)
       → ((e : Element) → Among e l → e.at ≡ o → X)
-      → ((former e : Element) → Among e l → e.valid ≡ true → judge former e ≡ Breaks o → X)
-      → (former : Element) → each_from judge former l ≡ Breaks o → X
+      → ((former e : Element) → Among e l → e.valid ≡ true → judge former e ≡ Err o → X)
+      → (former : Element) → each_from judge former l ≡ Err o → X
   unfolding each_from
   from_charges judge [] f g former h = absurd (breaks≢fits (sym h))
   from_charges judge (e ∷ es) f g former h =
@@ -52,14 +51,14 @@ module _ {X : Type 0} {o : ℕ} where
 
   pub each_charges : (judge : Element → Element → Fit) (l : List Element)
       → ((e : Element) → Among e l → e.at ≡ o → X)
-      → ((former e : Element) → Among e l → e.valid ≡ true → judge former e ≡ Breaks o → X)
-      → each judge l ≡ Breaks o → X
+      → ((former e : Element) → Among e l → e.valid ≡ true → judge former e ≡ Err o → X)
+      → each judge l ≡ Err o → X
   unfolding each
   each_charges judge [] f g h = absurd (breaks≢fits (sym h))
   each_charges judge (e ∷ es) f g h = from_charges judge (e ∷ es) f g e h
 
 -- an element that is not DER: one of its identifier octets
-pub der_charges : (d : ℕ) (s : List ℕ) (e : Element) {o : ℕ} → der d s e ≡ Breaks o → IdentifierOctet s o e
+pub der_charges : (d : ℕ) (s : List ℕ) (e : Element) {o : ℕ} → der d s e ≡ Err o → IdentifierOctet s o e
 unfolding der
 der_charges zero s e {o} h = let k : e.at ≡ o = cc in own k
 der_charges (suc d) s e {o} h =
@@ -81,8 +80,8 @@ der_charges (suc d) s e {o} h =
 pub spans_charges : {X : Type 0} (d : ℕ) (s : List ℕ) (at stop outer : ℕ) {o : ℕ}
     → (stop ≤ at → outer ≡ o → X)
     → (at < stop → IdentifierOctet s o (element_at s at stop) → X)
-    → (der d s (element_at s at stop) ≡ Fits → (element_at s at stop).stop ≡ o → ((element_at s at stop).stop ≡ stop → ⊥) → X)
-    → spans d s at stop outer ≡ Breaks o → X
+    → (der d s (element_at s at stop) ≡ Ok tt → (element_at s at stop).stop ≡ o → ((element_at s at stop).stop ≡ stop → ⊥) → X)
+    → spans d s at stop outer ≡ Err o → X
 spans_charges d s at stop outer f g h b =
     let e = element_at s at stop in
     by_test (ltb at stop)

@@ -1,4 +1,5 @@
 -- `der`, `sorted_in` and `spans`, one way through their tests at a time.
+use Rattle.std.specs.Prelude.{Err}
 use Prim.Native.Nat.{ℕ, zero, suc, ◌-◌, ◌≤◌, ◌<◌}
 use native.Mathlib.Omega.{arith}
 use mathlib.Core.Bool.{true, false}
@@ -11,10 +12,8 @@ use Rattle.octets.proofs.Lists.{by_test}
 use Rattle.octets.proofs.Compare.{ordered_refl}
 use Rattle.octets.proofs.Parts.{slice-none}
 use Rattle.der.specs.declared.Element.{Element}
-use Rattle.der.specs.declared.Fit.{Fit}
-use Rattle.der.specs.declared.Fit.TheVariants.{Breaks}
 use Rattle.der.specs.Element.{absent, element_at, inside, encoding, contents, constructed}
-use Rattle.der.specs.Fit.{and_then, held, each_from, each}
+use Rattle.der.specs.Fit.{and_then, held, each_from, each, Fit}
 use Rattle.der.specs.Contents.{contents_ok}
 use Rattle.der.specs.Check.{sorted_in, der, spans}
 use Rattle.der.proofs.Bools.{on_true, on_false}
@@ -51,14 +50,14 @@ module _ (s : List ℕ) (e : Element) where
   opened d =
       elim (constructed e.tag) [ true ↦ each (member_fit d s e.tag) (inside s e) | false ↦ held e.at (contents_ok e.tag (contents s e)) ]
 
-  pub der_deep : (d : ℕ) → d ≡ 0 → der d s e ≡ Breaks e.at
+  pub der_deep : (d : ℕ) → d ≡ 0 → der d s e ≡ Err e.at
   unfolding der
   der_deep d h = rw h
 
-  pub der_bad : (d : ℕ) → e.valid ≡ false → der d s e ≡ Breaks e.at
+  pub der_bad : (d : ℕ) → e.valid ≡ false → der d s e ≡ Err e.at
   unfolding der opened
   der_bad zero g = refl
-  der_bad (suc d) g = on_false e.valid (opened d) (Breaks e.at) g
+  der_bad (suc d) g = on_false e.valid (opened d) (Err e.at) g
 
   pub der_run_lem : (d : ℕ) → (d ≡ 0 → ⊥) → e.valid ≡ true → constructed e.tag ≡ true → der d s e ≡ each (member_fit (d - 1) s e.tag) (inside s e)
   unfolding der opened
@@ -66,7 +65,7 @@ module _ (s : List ℕ) (e : Element) where
   der_run_lem (suc d) n g k =
       let p : suc d - 1 ≡ d = omega arith in
       rw p
-      (on_true e.valid (opened d) (Breaks e.at) g
+      (on_true e.valid (opened d) (Err e.at) g
       ∙ on_true
       (constructed e.tag)
       (each (member_fit d s e.tag) (inside s e))
@@ -78,7 +77,7 @@ module _ (s : List ℕ) (e : Element) where
   unfolding der opened
   der-leaf zero n g k = absurd (n refl)
   der-leaf (suc d) n g k =
-      on_true e.valid (opened d) (Breaks e.at) g
+      on_true e.valid (opened d) (Err e.at) g
       ∙ on_false
       (constructed e.tag)
       (each (member_fit d s e.tag) (inside s e))
@@ -94,7 +93,7 @@ module _ (s : List ℕ) (e : Element) where
       (λ g. der_bad d g ∙ sym (then_breaks _ (held_breaks e.at g)))
 
 module _ (d : ℕ) (s : List ℕ) (at stop outer : ℕ) where
-  pub spans-none : stop ≤ at → spans d s at stop outer ≡ Breaks outer
+  pub spans-none : stop ≤ at → spans d s at stop outer ≡ Err outer
   unfolding spans
   spans-none h = rw (le-ltb _ _ h, spans)
 

@@ -1,4 +1,5 @@
 -- 01's own examples of DER, computed.
+use Rattle.std.specs.Prelude.{Ok, Err}
 use Prim.Native.Nat.{ℕ, zero, suc}
 use mathlib.Core.Bool.{true, false}
 use mathlib.Core.List.{List, [], ◌∷◌}
@@ -7,7 +8,6 @@ use lib.ListN.{length, replicate}
 use Rattle.octets.specs.Octets.{ordered}
 use Rattle.octets.specs.Limits.{max_number}
 use Rattle.octets.specs.Number.{number_from, big_endian, digits}
-use Rattle.der.specs.declared.Fit.TheVariants.{Fits, Breaks}
 use Rattle.der.specs.Element.{length_at, length_shortest, headed, element_at, elements_from, elements}
 use Rattle.der.specs.Fit.{and_then, held, each_from, each}
 use Rattle.der.specs.Contents.{integer_ok, contents_ok}
@@ -40,11 +40,11 @@ nested zero = []
 nested (suc n) = 0x30 ∷ length (nested n) ∷ nested n
 
 -- "to depth 16 (the outermost is depth 1); depth 17 is a decode failure", charged to the element at depth 17
-depth : (spans 16 (nested 16) 0 32 0 ≡ Fits) × (spans 16 (nested 17) 0 34 0 ≡ Breaks 32)
+depth : (spans 16 (nested 16) 0 32 0 ≡ Ok tt) × (spans 16 (nested 17) 0 34 0 ≡ Err 32)
 unfolding spans der each each_from and_then held elements elements_from element_at headed length_shortest length_at number_from sorted_in nested
 depth = (refl, refl)
 
 -- "SET OF sorted": the second member is charged
-sorted : (spans 16 (0x31 ∷ 6 ∷ 2 ∷ 1 ∷ 1 ∷ 2 ∷ 1 ∷ 2 ∷ []) 0 8 0 ≡ Fits) × (spans 16 (0x31 ∷ 6 ∷ 2 ∷ 1 ∷ 2 ∷ 2 ∷ 1 ∷ 1 ∷ []) 0 8 0 ≡ Breaks 5)
+sorted : (spans 16 (0x31 ∷ 6 ∷ 2 ∷ 1 ∷ 1 ∷ 2 ∷ 1 ∷ 2 ∷ []) 0 8 0 ≡ Ok tt) × (spans 16 (0x31 ∷ 6 ∷ 2 ∷ 1 ∷ 2 ∷ 2 ∷ 1 ∷ 1 ∷ []) 0 8 0 ≡ Err 5)
 unfolding spans der each each_from and_then held elements elements_from element_at headed length_shortest length_at number_from sorted_in ordered contents_ok integer_ok
 sorted = (refl, refl)

@@ -1,4 +1,6 @@
 -- A header's rules as facts, and what `element_at` is where they hold and where one breaks. Only this file and Elements open `element_at`.
+use Rattle.std.specs.Prelude.{Some, None}
+use Rattle.std.proofs.lemmas.Option.{some_pair_parts}
 use Prim.Native.Nat.{ℕ, ◌+◌, ◌-◌, ◌*◌, ◌/◌, ◌%◌, ◌≤◌, ◌<◌}
 use native.Mathlib.Omega.{arith}
 use mathlib.Core.Bool.{Bool, true, false, not, and-eq-true_iff, true≢false, false≢true}
@@ -12,7 +14,6 @@ use Rattle.octets.specs.Number.{number_from}
 use Rattle.octets.proofs.Lists.{by_test, both}
 use Rattle.octets.proofs.Parts.{slice_first, slice-none}
 use Rattle.octets.proofs.Number.{number_grows}
-use Rattle.der.specs.declared.read.Length.TheVariants.{Of, Beyond}
 use Rattle.der.specs.Element.{absent, length_octets_after, length_at, length_shortest, contents_at, headed, element_at}
 use Rattle.der.specs.Contract.Reading.{length_in}
 use Rattle.der.proofs.Bools.{and_false}
@@ -152,27 +153,28 @@ module _ (s : List ℕ) (at stop : ℕ) where
 -- what the length octets say in a window
 
 module _ (s : List ℕ) (at stop : ℕ) where
-  pub length_beyond : stop < contents_at s at + length_at s at → length_in s at stop ≡ Beyond
+  pub length_beyond : stop < contents_at s at + length_at s at → length_in s at stop ≡ None
   unfolding length_in
   length_beyond l = rw (lt-leb _ _ l, length_in)
 
-  pub length_of : contents_at s at + length_at s at ≤ stop → length_in s at stop ≡ Of (contents_at s at) (length_at s at)
+  pub length_of : contents_at s at + length_at s at ≤ stop → length_in s at stop ≡ Some (contents_at s at, length_at s at)
   unfolding length_in
   length_of l = rw (le-leb _ _ l, length_in)
 
-  pub beyond_ends : length_in s at stop ≡ Beyond → stop < contents_at s at + length_at s at
+  pub beyond_ends : length_in s at stop ≡ None → stop < contents_at s at + length_at s at
   beyond_ends e =
       by_test (leb (contents_at s at + length_at s at) stop)
       (λ t. let z : ◌≡◌ {A = ℕ} 0 1 = cc (length_of (leb-true (contents_at s at + length_at s at) stop t)) in absurd (omega arith))
       (λ t. leb-false (contents_at s at + length_at s at) stop t)
 
-  pub of_ends : {start n : ℕ} → length_in s at stop ≡ Of start n → (start ≡ contents_at s at) × ((n ≡ length_at s at) × (start + n ≤ stop))
+  pub of_ends : {start n : ℕ} → length_in s at stop ≡ Some (start, n) → (start ≡ contents_at s at) × ((n ≡ length_at s at) × (start + n ≤ stop))
   of_ends {start} {n} e =
       by_test (leb (contents_at s at + length_at s at) stop)
       (λ t.
       let l = leb-true (contents_at s at + length_at s at) stop t in
-      let b : start ≡ contents_at s at = cc (length_of l) in
-      let m : n ≡ length_at s at = cc (length_of l) in
+      let p = some_pair_parts _ _ _ _ (sym (length_of l) ∙ e) in
+      let b : start ≡ contents_at s at = sym p.0 in
+      let m : n ≡ length_at s at = sym p.1 in
       (b, (m, omega arith)))
       (λ t. let z : ◌≡◌ {A = ℕ} 0 1 = cc (length_beyond (leb-false (contents_at s at + length_at s at) stop t)) in absurd (omega arith))
 

@@ -2,32 +2,20 @@
 use Prim.Native.Nat.{ℕ, zero, suc, ◌+◌, ◌-◌, ◌≤◌, ◌<◌}
 use native.Mathlib.Numerals.{add-one}
 use native.Mathlib.Omega.{arith}
-use mathlib.Core.Bool.{Bool, true, false, not, ◌&&◌}
+use mathlib.Core.Bool.{true, false, not, ◌&&◌}
 use mathlib.Core.List.{List, [], ◌∷◌}
 use mathlib.Core.Path.{◌≡◌, refl, ap, ◌∙◌}
 use lib.ListN.{length, drop, drop_of_length-le}
 use lib.Seq.{drop-cons}
 use lib.Dec.{ltb, leb, eqb}
 use borrow.Author.Tests.{ltb-true, ltb-false, le-leb, lt-leb, ne_eqb}
-use Rattle.octets.specs.Octets.{octet, same}
+use Rattle.octets.specs.Octets.{octet}
 use Rattle.octets.proofs.Lists.{by_test}
 use Rattle.octets.proofs.Compare.{same_lengths}
-use Rattle.der.proofs.Bools.{and_true}
-use Rattle.der.specs.Contents.{integer_ok, boolean_ok, arcs_ok, oid_ok, contents_ok}
+use Rattle.der.specs.Contents.{boolean_ok, arcs_ok, oid_ok}
 use Rattle.der.specs.Contract.Reading.{arc_begins}
 
 -- INTEGER
-
-pub integer-none : (o : List ℕ) → length o ≡ 0 → integer_ok o ≡ false
-unfolding integer_ok
-integer-none [] e = refl
-integer-none (x ∷ o) e = absurd (omega arith)
-
-pub integer_one : (o : List ℕ) → length o ≡ 1 → integer_ok o ≡ true
-unfolding integer_ok
-integer_one [] e = absurd (omega arith)
-integer_one (x ∷ []) e = refl
-integer_one (x ∷ y ∷ o) e = absurd (omega arith)
 
 -- a second octet below 80, or not
 second : (x : ℕ) → not (ltb x 128) ≡ leb 128 x
@@ -36,48 +24,11 @@ second x =
     (λ e. rw (e, lt-leb 128 x (ltb-true x 128 e)))
     (λ e. rw (e, le-leb 128 x (ltb-false x 128 e)))
 
-second_not : (x : ℕ) → not (leb 128 x) ≡ ltb x 128
-second_not x = rw (← second x) (twice (ltb x 128))
-  where
-    twice : (b : Bool) → not (not b) ≡ b
-    twice true = refl
-    twice false = refl
-
-pub integer-zero : (o : List ℕ) → 1 < length o → octet o 0 ≡ 0 → integer_ok o ≡ leb 128 (octet o 1)
-unfolding integer_ok
-integer-zero [] l e = absurd (omega arith)
-integer-zero (x ∷ []) l e = absurd (omega arith)
-integer-zero (x ∷ y ∷ o) l e = rw e (and_true (not (ltb y 128)) ∙ second y)
-
-pub integer_ones : (o : List ℕ) → 1 < length o → octet o 0 ≡ 255 → integer_ok o ≡ ltb (octet o 1) 128
-unfolding integer_ok
-integer_ones [] l e = absurd (omega arith)
-integer_ones (x ∷ []) l e = absurd (omega arith)
-integer_ones (x ∷ y ∷ o) l e = rw e (second_not y)
-
-pub integer-other : (o : List ℕ) → 1 < length o → (octet o 0 ≡ 0 → ⊥) → (octet o 0 ≡ 255 → ⊥) → integer_ok o ≡ true
-unfolding integer_ok
-integer-other [] l z n = absurd (omega arith)
-integer-other (x ∷ []) l z n = absurd (omega arith)
-integer-other (x ∷ y ∷ o) l z n = rw (ne_eqb x 0 z, ne_eqb x 255 n)
-
 -- BOOLEAN
 
 pub boolean_size : (o : List ℕ) → (length o ≡ 1 → ⊥) → boolean_ok o ≡ false
 unfolding boolean_ok
 boolean_size o n = rw (same_lengths o (0 ∷ []) n, same_lengths o (255 ∷ []) n)
-
-pub boolean_false : (o : List ℕ) → length o ≡ 1 → octet o 0 ≡ 0 → boolean_ok o ≡ true
-unfolding boolean_ok same
-boolean_false [] l e = absurd (omega arith)
-boolean_false (x ∷ []) l e = rw e
-boolean_false (x ∷ y ∷ o) l e = absurd (omega arith)
-
-pub boolean_other : (o : List ℕ) → length o ≡ 1 → (octet o 0 ≡ 0 → ⊥) → boolean_ok o ≡ eqb (octet o 0) 255
-unfolding boolean_ok same
-boolean_other [] l n = absurd (omega arith)
-boolean_other (x ∷ []) l n = rw (ne_eqb x 0 n) (and_true (eqb x 255))
-boolean_other (x ∷ y ∷ o) l n = absurd (omega arith)
 
 -- OID
 
@@ -123,8 +74,3 @@ arcs_broken o n (suc i) l w =
     (λ p. arcs_broken o n i (omega arith) (arcs_turn o i (omega arith) p ∙ ap (λ (k : ℕ). arcs_ok (arc_begins o k) (drop k o)) q ∙ w))
 
 -- the rule of a tag
-
-pub contents-free : (tag : ℕ) (o : List ℕ) → (tag ≡ 1 → ⊥) → (tag ≡ 2 → ⊥) → (tag ≡ 10 → ⊥) → (tag ≡ 6 → ⊥)
-    → contents_ok tag o ≡ true
-unfolding contents_ok
-contents-free tag o a b c d = rw (ne_eqb tag 1 a, ne_eqb tag 2 b, ne_eqb tag 10 c, ne_eqb tag 6 d, contents_ok)

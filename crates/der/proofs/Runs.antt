@@ -44,10 +44,6 @@ module _ (s : List ℕ) (at stop : ℕ) {e : Element} (q : e ≡ element_at s at
       let b : n ≡ stop = m ∙ next_broken e stop g in
       (omega arith, omega arith))
 
--- what is left to be read falls with each turn
-pub run_less : (s : List ℕ) (at stop n : ℕ) {e : Element} → e ≡ element_at s at stop → at < stop → n ≡ next_at e stop → stop - n < stop - at
-run_less s at stop n q l m = omega (arith, run_on s at stop q l m)
-
 -- what holds at the end of a run, where no element stands, and at an element if it holds after it, holds of every run
 module _ (s : List ℕ) (stop : ℕ) (P : ℕ → Type 0) (none : (at : ℕ) → stop ≤ at → P at)
     (broken : (at : ℕ) → at < stop → (element_at s at stop).valid ≡ false → P at)

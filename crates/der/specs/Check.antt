@@ -1,11 +1,9 @@
 -- 01, Answers, status 1: octets are DER.
-use Rattle.std.specs.Prelude.{ℕ, zero, suc, Bool, true, false, List, ltb, eqb}
+use Rattle.std.specs.Prelude.{ℕ, zero, suc, Bool, true, false, List, ltb, eqb, Err}
 use Rattle.octets.specs.Octets.{ordered}
 use Rattle.der.specs.declared.Element.{Element}
-use Rattle.der.specs.declared.Fit.{Fit}
-use Rattle.der.specs.declared.Fit.TheVariants.{Breaks}
 use Rattle.der.specs.Element.{element_at, inside, encoding, contents, constructed}
-use Rattle.der.specs.Fit.{and_then, held, each}
+use Rattle.der.specs.Fit.{and_then, held, each, Fit}
 use Rattle.der.specs.Contents.{contents_ok}
 
 -- 01, DER: "SET OF sorted"; "Status 1 sorts only sets with the universal tag": a member of an element with this tag stands in order after the one before it
@@ -16,10 +14,10 @@ sorted_in tag s former e = elim (eqb tag 49) [ true ↦ ordered (encoding s form
 -- run of elements that fills it; each member is read whole, then compared with the one before it (02, E3).
 -- "Octet strings are not opened by this check": they are primitive.
 unfoldable pub der : ℕ → List ℕ → Element → Fit
-der zero s e = Breaks e.at
+der zero s e = Err e.at
 der (suc d) s e =
     elim e.valid [
-      | false ↦ Breaks e.at
+      | false ↦ Err e.at
       | true ↦
           elim (constructed e.tag) [
             | true ↦ each (λ former m. and_then (der d s m) (held m.at (sorted_in e.tag s former m))) (inside s e)
@@ -32,4 +30,4 @@ der (suc d) s e =
 unfoldable pub spans : ℕ → List ℕ → ℕ → ℕ → ℕ → Fit
 spans d s at stop outer =
     let e = element_at s at stop in
-    elim (ltb at stop) [ false ↦ Breaks outer | true ↦ and_then (der d s e) (held e.stop (eqb e.stop stop)) ]
+    elim (ltb at stop) [ false ↦ Err outer | true ↦ and_then (der d s e) (held e.stop (eqb e.stop stop)) ]

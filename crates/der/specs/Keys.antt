@@ -1,11 +1,9 @@
 -- What the members of a run are compared by, and the first that has a key.
-use Rattle.std.specs.Prelude.{ℕ, true, false, List, [], ◌∷◌, map}
+use Rattle.std.specs.Prelude.{ℕ, true, false, List, [], ◌∷◌, map, Option, Some, None}
 use Rattle.octets.specs.Octets.{same}
 use Rattle.der.specs.declared.Element.{Element}
 use Rattle.der.specs.declared.Compared.{Compared}
 use Rattle.der.specs.declared.Compared.TheVariants.{Types, Contents, Encodings}
-use Rattle.der.specs.declared.Found.{Found}
-use Rattle.der.specs.declared.Found.TheVariants.{At, Nowhere}
 use Rattle.der.specs.Element.{absent, elements, encoding, contents, field}
 
 -- the type that stands in an element, the contents of its OID: extnID of an Extension, attrType of an Attribute or an AttrConstraint, contentType of an entry
@@ -26,11 +24,11 @@ abbrev pub keys_in : Compared → List ℕ → Element → List (List ℕ)
 keys_in by s list = keys_from by s list.start list.stop
 
 -- the first of the elements that has the key
-unfoldable pub first_with : Compared → List ℕ → List ℕ → List Element → Found
-first_with by s k [] = Nowhere
-first_with by s k (e ∷ es) = elim (same k (key_of by s e)) [ true ↦ At e | false ↦ first_with by s k es ]
+unfoldable pub first_with : Compared → List ℕ → List ℕ → List Element → Option Element
+first_with by s k [] = None
+first_with by s k (e ∷ es) = elim (same k (key_of by s e)) [ true ↦ Some e | false ↦ first_with by s k es ]
 
 -- what was found, as an element
-abbrev pub element_found : Found → Element
-element_found (At e) = e
-element_found Nowhere = absent 0
+abbrev pub element_found : Option Element → Element
+element_found (Some e) = e
+element_found None = absent 0

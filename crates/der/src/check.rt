@@ -7,39 +7,29 @@ ghost use Rattle.der.specs.Contents.{integer_ok, boolean_ok, oid_ok, contents_ok
 ghost use Rattle.der.specs.Contract.Reading.{arc_begins};
 ghost use Rattle.der.specs.Check.{sorted_in, der, spans as spansOf};
 
-use crate::read::{contents, element_at, encoding, is_constructed, next, no_element};
+use crate::read::{Run, contents, element_at, encoding, is_constructed, no_element};
 use crate::{BOOLEAN, ENUMERATED, Element, Fit, INTEGER, OBJECT_IDENTIFIER, SET};
 
 // INTEGER and ENUMERATED: not empty and shortest.
+#[tactic(auto, unfolding(crate::specs::Contents::integer_ok))]
 pub fn is_integer(o: &[u8]) -> bool
     ensures { result ≡ integer_ok o.now }
 {
-    if o.len() == 0 {
-        return false;
+    match o {
+        [] => false,
+        [_] => true,
+        [0x00, x, ..] => 128 <= *x,
+        [0xFF, x, ..] => *x < 128,
+        _ => true,
     }
-    if o.len() == 1 {
-        return true;
-    }
-    if o[0] == 0 {
-        return 128 <= o[1];
-    }
-    if o[0] == 255 {
-        return o[1] < 128;
-    }
-    true
 }
 
 // BOOLEAN: 00 or FF.
+#[tactic(auto, unfolding(crate::specs::Contents::boolean_ok, octets::specs::Octets::same))]
 fn is_boolean(o: &[u8]) -> bool
     ensures { result ≡ boolean_ok o.now }
 {
-    if o.len() != 1 {
-        return false;
-    }
-    if o[0] == 0 {
-        return true;
-    }
-    o[0] == 255
+    matches!(o, [0x00 | 0xFF])
 }
 
 // An arc that begins with 80 is not shortest. One begins at the first octet, and after the last octet of another.
@@ -47,13 +37,7 @@ fn is_padding(o: &[u8], i: usize) -> bool
     requires { i < length o.now }
     ensures { result ≡ arc_begins o.now i && eqb (octet o.now i) 128 }
 {
-    if o[i] != 128 {
-        return false;
-    }
-    if i == 0 {
-        return true;
-    }
-    o[i - 1] < 128
+    o[i] == 128 && (i == 0 || o[i - 1] < 128)
 }
 
 // OID: not empty, each arc shortest; an arc's last octet is below 80. From the last octet to the first.
@@ -63,9 +47,7 @@ pub fn is_oid(o: &[u8]) -> bool
     if o.len() == 0 {
         return false;
     }
-    let mut i = o.len();
-    while 0 < i {
-        i -= 1;
+    for i in (0..o.len()).rev() {
         if is_padding(o, i) {
             return false;
         }
@@ -74,22 +56,16 @@ pub fn is_oid(o: &[u8]) -> bool
 }
 
 // What the contents o of a primitive element with this tag must be.
+#[tactic(auto, unfolding(crate::specs::Contents::contents_ok))]
 fn contents_ok(tag: u8, o: &[u8]) -> bool
     ensures { result ≡ contents_ok tag o.now }
 {
-    if tag == BOOLEAN {
-        return is_boolean(o);
+    match tag {
+        BOOLEAN => is_boolean(o),
+        INTEGER | ENUMERATED => is_integer(o),
+        OBJECT_IDENTIFIER => is_oid(o),
+        _ => true,
     }
-    if tag == INTEGER {
-        return is_integer(o);
-    }
-    if tag == ENUMERATED {
-        return is_integer(o);
-    }
-    if tag == OBJECT_IDENTIFIER {
-        return is_oid(o);
-    }
-    true
 }
 
 // What the contents of a primitive element must be; a break is charged to the element.
@@ -97,19 +73,18 @@ fn check_contents(s: &[u8], e: Element) -> Fit
     ensures { result ≡ held e.at (contents_ok e.tag (contentsOf s.now e)) }
 {
     if contents_ok(e.tag, contents(s, e)) {
-        return Fit::Fits;
+        Ok(())
+    } else {
+        Err(e.at)
     }
-    Fit::Breaks(e.at)
 }
 
 // In an element with this tag, a SET or not: the member e stands in order after the one before it.
+#[tactic(auto, unfolding(crate::specs::Check::sorted_in))]
 fn is_sorted(s: &[u8], tag: u8, former: Element, e: Element) -> bool
     ensures { result ≡ sorted_in tag s.now former e }
 {
-    if tag != SET {
-        return true;
-    }
-    octets::in_order(encoding(s, former), encoding(s, e))
+    tag != SET || octets::in_order(encoding(s, former), encoding(s, e))
 }
 
 // The element e, and all in it, with this depth left for it.
@@ -118,10 +93,10 @@ pub fn check_element(s: &[u8], e: Element, depth: usize) -> Fit
     ensures { result ≡ der depth s.now e }
 {
     if !e.valid {
-        return Fit::Breaks(e.at);
+        return Err(e.at);
     }
     if depth == 0 {
-        return Fit::Breaks(e.at);
+        return Err(e.at);
     }
     if is_constructed(e.tag) {
         return check_run(s, e.tag, e.start, e.stop, depth - 1);
@@ -137,20 +112,15 @@ pub fn check_run(s: &[u8], tag: u8, start: usize, stop: usize, depth: usize) -> 
         (λ former e. and_then (der depth s.now e) (held e.at (sorted_in tag s.now former e)))
         (elements s.now start stop) }
 {
-    let mut at = start;
-    let mut former = no_element(at);
-    while at < stop {
-        let e = element_at(s, at, stop);
-        if let Fit::Breaks(o) = check_element(s, e, depth) {
-            return Fit::Breaks(o);
-        }
+    let mut former = no_element(start);
+    for e in Run::new(s, start, stop) {
+        check_element(s, e, depth)?;
         if !is_sorted(s, tag, former, e) {
-            return Fit::Breaks(e.at);
+            return Err(e.at);
         }
-        at = next(e, stop);
         former = e;
     }
-    Fit::Fits
+    Ok(())
 }
 
 // The octets from at up to stop are one element with this depth. Octets after it are charged to the first of them; where there is no octet at all,
@@ -159,14 +129,12 @@ pub fn spans(s: &[u8], at: usize, stop: usize, outer: usize, depth: usize) -> Fi
     ensures { result ≡ spansOf depth s.now at stop outer }
 {
     if stop <= at {
-        return Fit::Breaks(outer);
+        return Err(outer);
     }
     let e = element_at(s, at, stop);
-    if let Fit::Breaks(o) = check_element(s, e, depth) {
-        return Fit::Breaks(o);
-    }
+    check_element(s, e, depth)?;
     if e.stop != stop {
-        return Fit::Breaks(e.stop);
+        return Err(e.stop);
     }
-    Fit::Fits
+    Ok(())
 }

@@ -7,12 +7,13 @@ mod search;
 mod write;
 
 pub use check::{check_element, check_run, is_integer, is_oid, spans};
-pub use read::{contents, element_at, encoding, is_constructed, next, no_element};
+pub use read::{Run, contents, element_at, encoding, is_constructed, no_element};
 pub use search::{field, field_after, first_with, key, occurs, type_of};
 pub use write::{header_size, integer_size, put_header, put_integer};
 
 // An element: its identifier octet, where it begins, and its contents, from start up to stop.
-// Where no element stands at a place, valid is false, the tag is 0 and nothing is inside.
+// Where no element stands at a place, valid is false, the tag is 0 and nothing is inside. (A flag, no Option, which is no plainer: `field(s, field(s, e, t), u)` reads
+// on through what is absent, and a break is charged to the place of an element that is not there.)
 #[derive(Clone, Copy)]
 pub struct Element {
     pub valid: bool,
@@ -23,13 +24,10 @@ pub struct Element {
 }
 
 // Whether octets keep a rule; if not, the offset of the element that breaks it.
-#[derive(Clone, Copy)]
-pub enum Fit {
-    Fits,
-    Breaks(usize),
-}
+pub type Fit = Result<(), usize>;
 
-// What the members of a run are compared by: the type that stands in them, their contents, or all their octets.
+// What the members of a run are compared by: the type that stands in them, their contents, or all their octets. (An enum and no closure, which is no plainer: the
+// rule book's `key_of` names the three.)
 #[derive(Clone, Copy)]
 pub enum Compared {
     Types,
@@ -37,14 +35,8 @@ pub enum Compared {
     Encodings,
 }
 
-// An element that was looked for. (One whose header breaks a rule is an element of a run too, so `valid` could not say that there is none.)
-#[derive(Clone, Copy)]
-pub enum Found {
-    At(Element),
-    Nowhere,
-}
-
-// Identifier octets (X.690, 8.1.2): the universal types, and context-specific tags, [n] primitive and [n] constructed.
+// Identifier octets (X.690, 8.1.2): the universal types, and context-specific tags, [n] primitive and [n] constructed. (Octets, no enum, which is no plainer: they are
+// compared with octets of a message, which may be any, and written as they are.)
 pub const BOOLEAN: u8 = 0x01;
 
 pub const INTEGER: u8 = 0x02;

@@ -4,22 +4,16 @@ ghost use Rattle.octets.specs.Octets.{member};
 ghost use Rattle.der.specs.Element.{elements, with_tag, field as field_of, field_after};
 ghost use Rattle.der.specs.Keys.{type_of, key_of, keys_from, first_with};
 
-use crate::read::{contents, element_at, encoding, next, no_element};
-use crate::{Compared, Element, Found, OBJECT_IDENTIFIER};
+use crate::read::{Run, contents, encoding, no_element};
+use crate::{Compared, Element, OBJECT_IDENTIFIER};
 
 // The first element with the tag in the run from at up to stop. One whose header breaks a rule is the last, and has the tag 0.
 fn with_tag(s: &[u8], at: usize, stop: usize, tag: u8) -> Element
     ensures { result ≡ with_tag tag (elements s.now at stop) }
 {
-    let mut i = at;
-    while i < stop {
-        let e = element_at(s, i, stop);
-        if e.tag == tag {
-            return e;
-        }
-        i = next(e, stop);
-    }
-    no_element(0)
+    Run::new(s, at, stop)
+        .find(|e| e.tag == tag)
+        .unwrap_or(no_element(0))
 }
 
 // The first field with the tag in the element e, and the first after its field f.
@@ -53,27 +47,16 @@ pub fn key(s: &[u8], e: Element, by: Compared) -> &[u8]
     }
 }
 
-// The first member of the run from at up to stop that has the key k.
-pub fn first_with(s: &[u8], at: usize, stop: usize, by: Compared, k: &[u8]) -> Found
+// The first member of the run from at up to stop that has the key k. (Octets and two places, and no `Run`, which is no plainer: the keys are read from the octets too.)
+pub fn first_with(s: &[u8], at: usize, stop: usize, by: Compared, k: &[u8]) -> Option<Element>
     ensures { result ≡ first_with by s.now k.now (elements s.now at stop) }
 {
-    let mut i = at;
-    while i < stop {
-        let e = element_at(s, i, stop);
-        if octets::equal(k, key(s, e, by)) {
-            return Found::At(e);
-        }
-        i = next(e, stop);
-    }
-    Found::Nowhere
+    Run::new(s, at, stop).find(|e| octets::equal(k, key(s, *e, by)))
 }
 
 // Whether one has it.
 pub fn occurs(s: &[u8], at: usize, stop: usize, by: Compared, k: &[u8]) -> bool
     ensures { result ≡ member k.now (keys_from by s.now at stop) }
 {
-    if let Found::At(_) = first_with(s, at, stop, by, k) {
-        return true;
-    }
-    false
+    first_with(s, at, stop, by, k).is_some()
 }

@@ -1,4 +1,4 @@
-// Writing a header, and an INTEGER.
+// Writing a header, and an INTEGER. (Buffer and place as they are, and no struct: these are functions that the thin append calls of 01's writer stand on.)
 ghost use Rattle.std.specs.Prelude.{◌≡◌, ◌+◌, ◌≤◌, length};
 ghost use Rattle.octets.specs.Octets.{placed};
 ghost use Rattle.der.specs.Write.{length_octets, header, integer_contents, integer};

@@ -1,9 +1,9 @@
 -- The law of each edit: the image of a store becomes the image of the store after a step of 01, After acceptance.
+use Rattle.std.specs.Prelude.{Some}
 use Prim.Native.Nat.{ℕ, suc, ◌+◌, ◌-◌}
 use native.Mathlib.Omega.{arith}
 use mathlib.Core.Bool.{true}
 use mathlib.Core.List.{List, [], ◌∷◌, ◌++◌, flat_map, append_assoc, append-nil}
-use mathlib.Core.Option.{some}
 use mathlib.Core.Path.{◌≡◌, refl, sym, ap, ap₂, ◌∙◌}
 use lib.ListN.{length, length-append}
 use Rattle.octets.specs.Octets.{placed}
@@ -71,7 +71,7 @@ remove_law σ g x y a e =
 
 -- a number, over the one that stands there
 pub number-placed : (dev rest : List ℕ) (x y : List Anchor) (a : Anchor) (n : ℕ)
-    → placed (dev ++ (encode_section encode_anchor (x ++ (a ∷ y)) ++ rest)) (length dev + 1 + length (flat_map encode_anchor x)) (encode_number (some n))
+    → placed (dev ++ (encode_section encode_anchor (x ++ (a ∷ y)) ++ rest)) (length dev + 1 + length (flat_map encode_anchor x)) (encode_number (Some n))
     ≡ dev ++ (encode_section encode_anchor (x ++ (numbered n a ∷ y)) ++ rest)
 unfolding flat_map encode_anchor
 number-placed dev rest x y a n =
@@ -83,10 +83,10 @@ number-placed dev rest x y a n =
     let split : (a : Anchor) → encode_anchor a ++ r ++ rest ≡ encode_number a.number ++ ((big_endian 2 (length a.info) ++ a.info) ++ (r ++ rest)) =
     λ a. append_assoc (encode_anchor a) r rest ∙ append_assoc (encode_number a.number) (big_endian 2 (length a.info) ++ a.info) (r ++ rest)
     in
-    ap (λ (s : List ℕ). placed s (length dev + 1 + length (flat_map encode_anchor x)) (encode_number (some n)))
+    ap (λ (s : List ℕ). placed s (length dev + 1 + length (flat_map encode_anchor x)) (encode_number (Some n)))
     (section_split encode_anchor dev rest x (a ∷ y) refl ∙ ap (λ (r : List ℕ). f ++ r) (split a))
-    ∙ placed-replaced _ _ (encode_number (some n))
-    ∙ replaced_at f (encode_number a.number) (b ++ (r ++ rest)) (encode_number (some n)) (section_front encode_anchor dev x c) (length-encode_number a.number ∙ sym (length-encode_number (some n)))
+    ∙ placed-replaced _ _ (encode_number (Some n))
+    ∙ replaced_at f (encode_number a.number) (b ++ (r ++ rest)) (encode_number (Some n)) (section_front encode_anchor dev x c) (length-encode_number a.number ∙ sym (length-encode_number (Some n)))
     ∙ sym (section_split encode_anchor dev rest x (numbered n a ∷ y) l ∙ ap (λ (r : List ℕ). f ++ r) (split (numbered n a)))
 
 -- the section of communities

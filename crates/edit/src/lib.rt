@@ -1,23 +1,11 @@
 // Edits on a scratch image: a lent buffer that holds an image in its first `len` octets, with free room after it.
+// The buffer and the length stay two parameters: README names these functions, two of the three take both, and no clause asks what stands there.
 #![tactic(auto)]
 
 ghost use Rattle.std.specs.Prelude.{◌≡◌, ◌++◌, ◌+◌, ◌<◌, ◌≤◌, length, take, drop};
-ghost use Rattle.std.proofs.Math.Option.{some};
 ghost use Rattle.octets.specs.Octets.{placed};
 ghost use Rattle.store.specs.Image.{encode_number};
 ghost use Rattle.edit.specs.Contract.Edits.{replaced, recounted};
-
-// Moves n octets from one place to another.
-fn shift(d: &mut [u8], from: usize, to: usize, n: usize)
-    requires { (from + n ≤ length d.old) × (to + n ≤ length d.old) }
-    ensures { d.new ≡ placed d.old to (take n (drop from d.old)) }
-{
-    if from < to {
-        octets::move_up(d, from, to, n);
-        return;
-    }
-    octets::move_down(d, from, to, n);
-}
 
 // Replaces the n octets from place `at` on by those of `head` and `body`: what follows them moves. Gives the image's new length.
 pub fn replace(buf: &mut [u8], len: usize, at: usize, n: usize, head: &[u8], body: &[u8]) -> usize
@@ -29,7 +17,7 @@ pub fn replace(buf: &mut [u8], len: usize, at: usize, n: usize, head: &[u8], bod
     let mid = at + head.len();
     let to = mid + body.len();
     let rest = len - from;
-    shift(buf, from, to, rest);
+    octets::shift(buf, from, to, rest);
     octets::copy_to(buf, at, head);
     octets::copy_to(buf, mid, body);
     to + rest
@@ -57,7 +45,7 @@ pub fn replace_items(
 // Writes number present and the number n at a record's place, over those that stand there.
 pub fn set_number(buf: &mut [u8], at: usize, n: u64)
     requires { at + 9 ≤ length buf.old }
-    ensures { buf.new ≡ placed buf.old at (encode_number (some n)) }
+    ensures { buf.new ≡ placed buf.old at (encode_number (Some n)) }
 {
     buf[at] = 1;
     octets::put_be(buf, at + 1, 8, n);

@@ -1,135 +1,107 @@
--- 01, Answers, status 7: the definitions of specs/Attributes, one way through their tests at a time.
-use Prim.Native.Nat.{ℕ}
+-- 01, Answers, status 7: the signed attributes in turn, as a loop over them goes.
+use Rattle.std.specs.Prelude.{Option, Err}
+use Prim.Native.Nat.{ℕ, ◌≤◌}
 use mathlib.Core.Bool.{Bool, true, false, not, ◌&&◌, and-eq-true_iff}
-use borrow.Author.Tests.{not-true, not-false}
+use borrow.Author.Tests.{ltb-true, ltb-false, not-true}
+use native.Mathlib.Omega.{arith}
+use lib.Dec.{ltb}
 use mathlib.Core.List.{List, [], ◌∷◌, map}
 use mathlib.Core.Path.{◌≡◌, refl, sym, ap, ap₂, ◌∙◌}
-use Rattle.octets.specs.Octets.{same, member, ordered}
-use Rattle.octets.specs.Number.{digits}
+use Rattle.octets.specs.Octets.{member, ordered}
 use Rattle.der.specs.declared.Element.{Element}
-use Rattle.der.specs.declared.Fit.{Fit}
-use Rattle.der.specs.declared.Fit.TheVariants.{Fits, Breaks}
-use Rattle.der.specs.Element.{element_at, elements, encoding, inside}
-use Rattle.der.specs.Fit.{and_then, held, each}
-use Rattle.der.specs.Oid.{oid, arc, arcs}
-use Rattle.der.proofs.Elements.{valid_within}
-use Rattle.der.proofs.Fits.{then_fits, then_breaks, held_fits, held_breaks}
-use Rattle.der.proofs.Runs.{Reached}
-use Rattle.repeats.specs.declared.Repeat.{Repeat}
-use Rattle.der.specs.Keys.{type_of, key_of, keys_from}
+use Rattle.octets.proofs.Lists.{by_test}
+use Rattle.octets.proofs.Compare.{ordered_refl}
+use Rattle.octets.proofs.Parts.{slice-none}
+use Rattle.der.specs.Contract.Reading.{next_at}
+use Rattle.der.specs.Element.{absent, element_at, elements, encoding, inside}
+use Rattle.der.specs.Fit.{and_then, held, each_from, each, Fit}
+use Rattle.der.proofs.Elements.{valid_within, elements_end}
+use Rattle.der.proofs.Fits.{then_fits, then_breaks, held_fits, held_breaks, judge_by}
+use Rattle.der.proofs.Runs.{Reached, reached-none, reached_on, next_valid, run_turn}
+use Rattle.der.specs.Keys.{type_of, key_of, keys_from, keys_in}
 use Rattle.repeats.specs.Contract.Keys.{first_repeat, is_at}
 use Rattle.der.specs.declared.Compared.TheVariants.{Types}
+use Rattle.repeats.proofs.Keys.{none_in, keys_end}
 use Rattle.repeats.proofs.Repeats.{run_is, run_on}
-use Rattle.der.proofs.Bools.{on_true, on_false}
-use Rattle.syntax.specs.Grammar.{Syntax, tagged, fit}
-use Rattle.syntax.specs.Asn.{Attribute, content_type_value, message_digest_value, other_value}
-use Rattle.syntax.specs.Types.{id_content_type, id_message_digest}
-use Rattle.syntax.specs.declared.AttributeForm.{AttributeForm}
-use Rattle.syntax.specs.declared.AttributeForm.TheVariants as attribute
-use Rattle.syntax.specs.Contract.Forms.{attribute_syntax}
-use Rattle.envelope.specs.Attributes.{value_syntax, attribute_fit, repeated, has_type, attributes_fit}
+use Rattle.envelope.specs.Attributes.{attribute_fit, repeated}
 
--- the two OIDs of RFC 5652 as octets
-abbrev pub content_type_octets : List ℕ
-content_type_octets = 42 ∷ 134 ∷ 72 ∷ 134 ∷ 247 ∷ 13 ∷ 1 ∷ 9 ∷ 3 ∷ []
+-- the attributes that are left, from a place that the run reaches, and the first whose type stood before, as they tell it
+module _ (s : List ℕ) (attributes : Element) (first : Option ℕ) where
+  pub record Left (l : List Element) : Type 0 where
+    pub at : ℕ
+    pub reached : Reached s attributes.start at
+    pub is : l ≡ elements s at attributes.stop
+    pub tells : first ≡ first_repeat Types s (keys_from Types s attributes.start at) (elements s at attributes.stop)
 
-abbrev pub message_digest_octets : List ℕ
-message_digest_octets = 42 ∷ 134 ∷ 72 ∷ 134 ∷ 247 ∷ 13 ∷ 1 ∷ 9 ∷ 4 ∷ []
+  pub all_left : {none : Element} {l : List Element} → none ≡ absent 0 → first ≡ first_repeat Types s (keys_in Types s none) (inside s attributes) → l ≡ inside s attributes → Left l
+  all_left n f h =
+      record {
+        at = attributes.start;
+        reached = reached-none s attributes.start;
+        is = h;
+        tells = f ∙ ap (λ (k : List (List ℕ)). first_repeat Types s k (inside s attributes)) (none_in Types s n ∙ sym (keys_end Types s attributes.start attributes.start (omega arith)));
+      }
 
-pub content_type_octets_lem : id_content_type ≡ content_type_octets
-unfolding oid arc arcs digits
-content_type_octets_lem = refl
+  module _ {l m : List Element} {e : Element} (k : Left l) (q : l ≡ e ∷ m) where
+    turn : (e ≡ element_at s k.at attributes.stop) × (m ≡ elements s (next_at e attributes.stop) attributes.stop)
+    turn =
+        let n = element_at s k.at attributes.stop in
+        by_test (ltb k.at attributes.stop)
+        (λ t.
+        let r : e ∷ m ≡ n ∷ elements s (next_at n attributes.stop) attributes.stop = sym q ∙ k.is ∙ run_turn s k.at attributes.stop refl (ltb-true _ _ t) refl in
+        let h : e ≡ n = cc in
+        (h, rw h (cc)))
+        (λ t. let r : e ∷ m ≡ [] = sym q ∙ k.is ∙ elements_end s k.at attributes.stop (ltb-false _ _ t) in cc)
 
-pub message_digest_octets_lem : id_message_digest ≡ message_digest_octets
-unfolding oid arc arcs digits
-message_digest_octets_lem = refl
+    module _ (g : e.valid ≡ true) where
+      here : e.at ≡ k.at
+      here = (valid_within s k.at attributes.stop turn.0 g).here
 
--- what is asked of an Attribute, by its type
-module _ (type : List ℕ) where
-  digest_syntax : Syntax
-  digest_syntax = elim (same type id_message_digest) [ true ↦ message_digest_value | false ↦ other_value ]
+      first_is : is_at first e.at ≡ member (key_of Types s e) (keys_from Types s attributes.start k.at)
+      first_is = ap₂ is_at k.tells here ∙ run_is Types s k.at attributes.stop turn.0 g attributes.start k.reached
 
-  pub form_content : same type id_content_type ≡ true
-      → (t : List ℕ) → attribute_syntax attribute.ContentType t ≡ tagged 0x30 (Attribute (value_syntax t type))
-  unfolding value_syntax attribute_syntax digest_syntax
-  form_content h t =
-      ap (λ (g : Syntax). tagged 0x30 (Attribute g)) (sym (on_true (same type id_content_type) (content_type_value t) digest_syntax h))
+      module _ (former : Element) where
+        pub in_place : {b : Bool} → b ≡ ordered (encoding s former) (encoding s e) && not (is_at first e.at) → b ≡ ordered (encoding s former) (encoding s e) && not (repeated s attributes e)
+        unfolding repeated key_of
+        in_place h =
+            h
+            ∙ ap (λ (x : Bool). ordered (encoding s former) (encoding s e) && not x)
+            (first_is ∙ sym (ap (λ (i : ℕ). member (type_of s e) (map (type_of s) (elements s attributes.start i))) here))
 
-  pub form_digest : same type id_content_type ≡ false → same type id_message_digest ≡ true
-      → (t : List ℕ) → attribute_syntax attribute.MessageDigest t ≡ tagged 0x30 (Attribute (value_syntax t type))
-  unfolding value_syntax attribute_syntax digest_syntax
-  form_digest h k t =
-      ap (λ (g : Syntax). tagged 0x30 (Attribute g))
-      (sym
-      (on_false (same type id_content_type) (content_type_value t) digest_syntax h
-      ∙ on_true (same type id_message_digest) message_digest_value other_value k))
+        pub left_on : ordered (encoding s former) (encoding s e) && not (is_at first e.at) ≡ true → Left m
+        left_on h =
+            record {
+              at = e.stop;
+              reached = reached_on k.reached attributes.stop turn.0 g;
+              is = turn.1 ∙ ap (λ (i : ℕ). elements s i attributes.stop) (next_valid e attributes.stop g);
+              tells =
+                  k.tells
+                  ∙ run_on Types s k.at attributes.stop turn.0 refl [] k.reached g
+                  (sym first_is ∙ not-true _ ((and-eq-true_iff (ordered (encoding s former) (encoding s e)) (not (is_at first e.at))).0 h).1);
+            }
 
-  pub form_other : same type id_content_type ≡ false → same type id_message_digest ≡ false
-      → (t : List ℕ) → attribute_syntax attribute.Other t ≡ tagged 0x30 (Attribute (value_syntax t type))
-  unfolding value_syntax attribute_syntax digest_syntax
-  form_other h k t =
-      ap (λ (g : Syntax). tagged 0x30 (Attribute g))
-      (sym
-      (on_false (same type id_content_type) (content_type_value t) digest_syntax h
-      ∙ on_false (same type id_message_digest) message_digest_value other_value k))
-
--- the Attribute by itself
-pub attribute_fit_lem : (form : AttributeForm) (type o s : List ℕ) (e : Element) → attribute_syntax form type ≡ tagged 0x30 (Attribute (value_syntax type o)) → o ≡ type_of s e
-    → fit (attribute_syntax form type) s e.at e.stop e.at ≡ attribute_fit type s e
-unfolding attribute_fit
-attribute_fit_lem form type o s e h q = rw (h, q)
-
--- an attribute that the run reaches, and the first whose type stood before, as the rest of the run tells it
-module _ (s : List ℕ) (attributes : Element) {at : ℕ} (r : Reached s attributes.start at) {e : Element} (q : e ≡ element_at s at attributes.stop) (g : e.valid ≡ true)
-    {first : Repeat} (f : first ≡ first_repeat Types s (keys_from Types s attributes.start at) (elements s at attributes.stop)) where
-  first_is : is_at first e.at ≡ member (key_of Types s e) (keys_from Types s attributes.start at)
-  first_is = ap₂ is_at f (valid_within s at attributes.stop q g).here ∙ run_is Types s at attributes.stop q g attributes.start r
-
-  module _ (former : Element) where
-    pub in_place : {b : Bool} → b ≡ ordered (encoding s former) (encoding s e) && not (is_at first e.at) → ordered (encoding s former) (encoding s e) && not (repeated s attributes e) ≡ b
-    unfolding repeated key_of
-    in_place h =
-        let here = (valid_within s at attributes.stop q g).here in
-        ap (λ (x : Bool). ordered (encoding s former) (encoding s e) && not x) (ap (λ (i : ℕ). member (type_of s e) (map (type_of s) (elements s attributes.start i))) here ∙ sym first_is) ∙ sym h
-
-    pub first_on : ordered (encoding s former) (encoding s e) && not (is_at first e.at) ≡ true
-        → first ≡ first_repeat Types s (keys_from Types s attributes.start e.stop) (elements s e.stop attributes.stop)
-    first_on h = f ∙ run_on Types s at attributes.stop q refl [] r g (sym first_is ∙ not-true _ ((and-eq-true_iff (ordered (encoding s former) (encoding s e)) (not (is_at first e.at))).0 h).1)
+-- an attribute stands where it may, after the one before it
+abbrev pub well_placed : List ℕ → Element → Element → Element → Bool
+well_placed s attributes former e = ordered (encoding s former) (encoding s e) && not (repeated s attributes e)
 
 -- the judge of each attribute
 abbrev pub attribute_judge : List ℕ → List ℕ → Element → Element → Element → Fit
-attribute_judge type s attributes former e =
-    and_then (attribute_fit type s e) (held e.at (ordered (encoding s former) (encoding s e) && not (repeated s attributes e)))
+attribute_judge type s attributes = judge_by (attribute_fit type s) (well_placed s attributes)
 
-module _ (type s : List ℕ) (signer attributes : Element) where
-  both_there : Fit
-  both_there = held attributes.at (has_type s attributes id_content_type && has_type s attributes id_message_digest)
+-- the first has itself before it, and might as well have nothing: both are in order
+module _ (type s : List ℕ) (attributes : Element) (at : ℕ) where
+  ordered_first : (e : Element) → ordered (encoding s (absent at)) (encoding s e) ≡ ordered (encoding s e) (encoding s e)
+  unfolding ordered
+  ordered_first e = let n : at ≤ at = omega arith in rw (slice-none s at at n, ordered_refl (encoding s e))
 
-  pub attributes_absent : not attributes.valid ≡ true → Breaks signer.at ≡ attributes_fit type s signer attributes
-  unfolding attributes_fit both_there
-  attributes_absent g =
-      sym
-      (on_false
-      attributes.valid
-      (and_then (each (attribute_judge type s attributes) (inside s attributes)) both_there)
-      (Breaks signer.at)
-      (not-true _ g))
+  pub each_first : (l : List Element) → each_from (attribute_judge type s attributes) (absent at) l ≡ each (attribute_judge type s attributes) l
+  unfolding each each_from
+  each_first [] = refl
+  each_first (e ∷ l) = rw (ordered_first e)
 
-  module _ (g : not attributes.valid ≡ false) {f : Fit} (h : f ≡ each (attribute_judge type s attributes) (inside s attributes)) where
-    attributes_run : attributes_fit type s signer attributes ≡ and_then f both_there
-    unfolding attributes_fit both_there
-    attributes_run =
-        on_true attributes.valid (and_then (each (attribute_judge type s attributes) (inside s attributes)) both_there) (Breaks signer.at) (not-false _ g)
-        ∙ ap (λ (x : Fit). and_then x both_there) (sym h)
+module _ (f : Fit) (e : Element) where
+  pub header_breaks : e.valid ≡ false → Err e.at ≡ and_then (held e.at e.valid) f
+  header_breaks g = sym (then_breaks f (held_breaks e.at g))
 
-    pub attributes_break : {o : ℕ} → f ≡ Breaks o → Breaks o ≡ attributes_fit type s signer attributes
-    attributes_break k = sym (attributes_run ∙ then_breaks both_there k)
-
-    module _ (k : f ≡ Fits) {b : Bool} (q : b ≡ has_type s attributes id_content_type && has_type s attributes id_message_digest) where
-      pub attributes_there : b ≡ true → Fits ≡ attributes_fit type s signer attributes
-      unfolding both_there
-      attributes_there t = sym (attributes_run ∙ then_fits both_there k ∙ held_fits attributes.at (sym q ∙ t))
-
-      pub attributes_missing : b ≡ false → Breaks attributes.at ≡ attributes_fit type s signer attributes
-      unfolding both_there
-      attributes_missing t = sym (attributes_run ∙ then_fits both_there k ∙ held_breaks attributes.at (sym q ∙ t))
+  pub header_fits : e.valid ≡ true → f ≡ and_then (held e.at e.valid) f
+  header_fits g = sym (then_fits f (held_fits e.at g))

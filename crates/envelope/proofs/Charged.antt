@@ -1,4 +1,5 @@
 -- 02, E3: what the rows 1 to 8 charge is an identifier octet of the message's element, but that 1 charges octets behind it too.
+use Rattle.std.specs.Prelude.{Ok, Err}
 use Prim.Native.Nat.{ℕ, ◌<◌}
 use native.Mathlib.Omega.{arith}
 use mathlib.Core.Bool.{true, not, false≢true}
@@ -10,7 +11,6 @@ use Rattle.octets.specs.Limits.{max_depth}
 use Rattle.octets.specs.Octets.{same}
 use Rattle.octets.proofs.Lists.{by_test, among_none, among_one}
 use Rattle.der.specs.declared.Element.{Element}
-use Rattle.der.specs.declared.Fit.TheVariants.{Fits, Breaks}
 use Rattle.der.specs.Element.{elements, inside, root, contents, constructed, with_tag, field}
 use Rattle.der.specs.Fit.{held}
 use Rattle.der.specs.Identifier.{IdentifierOctet, own, of_member}
@@ -79,14 +79,14 @@ module _ (s : List ℕ) where
   charged_itself h k = subst (λ a. IdentifierOctet s a (root s)) k h.place
 
   -- a syntax that reads its contents
-  contents_charge : (g : Syntax) {e : Element} {o : ℕ} → opens_constructed g ≡ true → Chargeable s e → fit g s e.start e.stop e.at ≡ Breaks o
+  contents_charge : (g : Syntax) {e : Element} {o : ℕ} → opens_constructed g ≡ true → Chargeable s e → fit g s e.start e.stop e.at ≡ Err o
       → IdentifierOctet s o (root s)
   contents_charge g {e} {o} c h =
       fit_charges s g e.start e.stop e.at c (charged_itself h) (λ m i. h.members m i o)
 
   -- an Attribute of signedAttrs
   attribute_charges : (e_content_type : List ℕ) (a : Element) → Chargeable s a → (e : Element) → Among e (inside s a) → e.valid ≡ true → {o : ℕ}
-      → attribute_fit e_content_type s e ≡ Breaks o → IdentifierOctet s o (root s)
+      → attribute_fit e_content_type s e ≡ Err o → IdentifierOctet s o (root s)
   unfolding attribute_fit opens_constructed leaf
   attribute_charges e_content_type a h e i v {o} =
       fit_charges s (tagged 0x30 (Attribute (value_syntax e_content_type (type_of s e)))) e.at e.stop e.at
@@ -96,22 +96,22 @@ module _ (s : List ℕ) where
 
   -- 1
   pub row_1_charges : {X : Type 0} {o : ℕ} → (length s ≡ 0 → o ≡ 0 → X) → (o < length s → IdentifierOctet s o (root s) → X)
-      → ((root s).valid ≡ true → o < length s → o ≡ (root s).stop → X) → row_1 s ≡ Breaks o → X
+      → ((root s).valid ≡ true → o < length s → o ≡ (root s).stop → X) → row_1 s ≡ Err o → X
   unfolding row_1
   row_1_charges = one_charges max_depth s
 
-  module _ (r1 : row_1 s ≡ Fits) where
+  module _ (r1 : row_1 s ≡ Ok tt) where
     -- where an identifier octet of the message's element stands, an octet of the message does
     pub row_1_octet : {o : ℕ} → IdentifierOctet s o (root s) → o < length s
     unfolding row_1
     row_1_octet = one_octet max_depth s r1
 
     -- 2
-    pub row_2_charges : {o : ℕ} → row_2 s ≡ Breaks o → IdentifierOctet s o (root s)
+    pub row_2_charges : {o : ℕ} → row_2 s ≡ Err o → IdentifierOctet s o (root s)
     unfolding row_1 row_2 opens_constructed leaf
     row_2_charges = syntax_charges max_depth s r1 ContentInfoSignedData refl
 
-    module _ (r2 : row_2 s ≡ Fits) where
+    module _ (r2 : row_2 s ≡ Ok tt) where
       root-tag : (root s).tag ≡ 0x30
       unfolding row_1 row_2 field_in lacks only_field
       root-tag =
@@ -142,15 +142,15 @@ module _ (s : List ℕ) where
       e_content-octet = tagged-octet 0x04 (inside s (e_content_tag s)) (field_chargeable 0xA0 refl at_encap_content_info).members
 
       -- 3 and 4
-      pub row_3_charges : {o : ℕ} → row_3 s ≡ Breaks o → IdentifierOctet s o (root s)
+      pub row_3_charges : {o : ℕ} → row_3 s ≡ Err o → IdentifierOctet s o (root s)
       unfolding row_3 opens_constructed leaf
       row_3_charges = contents_charge OneSignedData refl at_content
 
-      pub row_4_charges : {o : ℕ} → row_4 s ≡ Breaks o → IdentifierOctet s o (root s)
+      pub row_4_charges : {o : ℕ} → row_4 s ≡ Err o → IdentifierOctet s o (root s)
       unfolding row_4 opens_constructed leaf
       row_4_charges = contents_charge EncapsulatedContentInfo refl at_encap_content_info
 
-      module _ (r3 : row_3 s ≡ Fits) where
+      module _ (r3 : row_3 s ≡ Ok tt) where
         -- SignerInfos stand after EncapsulatedContentInfo, which is there
         at_signer_infos : Chargeable s (signer_infos s)
         unfolding row_3 signer_infos encap_content_info signed_data field_in lacks only_field
@@ -174,11 +174,11 @@ module _ (s : List ℕ) where
         at_unsigned_attrs = field_chargeable 0xA1 refl at_signer_info
 
         -- 6, 7 and 8
-        pub row_6_charges : {o : ℕ} → row_6 s ≡ Breaks o → IdentifierOctet s o (root s)
+        pub row_6_charges : {o : ℕ} → row_6 s ≡ Err o → IdentifierOctet s o (root s)
         unfolding row_6 opens_constructed leaf
         row_6_charges = contents_charge OneSignerInfo refl at_signer_infos
 
-        pub row_7_charges : {o : ℕ} → row_7 s ≡ Breaks o → IdentifierOctet s o (root s)
+        pub row_7_charges : {o : ℕ} → row_7 s ≡ Err o → IdentifierOctet s o (root s)
         unfolding row_7 attributes_fit
         row_7_charges {o} h =
             let a = signed_attrs s in
@@ -195,6 +195,6 @@ module _ (s : List ℕ) where
             (rw (attributes_fit, v) at h))
             (λ v. let w = rw (attributes_fit, v) at h in charged_itself at_signer_info (cc))
 
-        pub row_8_charges : {o : ℕ} → row_8 s ≡ Breaks o → IdentifierOctet s o (root s)
+        pub row_8_charges : {o : ℕ} → row_8 s ≡ Err o → IdentifierOctet s o (root s)
         unfolding row_8
         row_8_charges = held_charges (unsigned_attrs s).at (not (unsigned_attrs s).valid) (λ _. charged_itself at_unsigned_attrs)

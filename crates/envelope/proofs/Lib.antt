@@ -1,5 +1,4 @@
-pub mod Chain
+pub mod Unfolded
 pub mod Attributes
-pub mod Answers
 pub mod Opening
 pub mod Charged

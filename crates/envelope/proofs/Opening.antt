@@ -1,12 +1,10 @@
 -- A wrapper that opens: what the rows 1 to 8 found of it, and the parts that it holds.
+use Rattle.std.specs.Prelude.{Result, Ok, Err}
 use Prim.Native.Nat.{ℕ}
-use native.Mathlib.Omega.{arith}
 use mathlib.Core.List.{List}
 use mathlib.Core.Path.{◌≡◌}
 use borrow.Author.Tests.{not-false}
-use Rattle.der.specs.declared.Fit.{Fit}
-use Rattle.der.specs.declared.Fit.TheVariants.{Fits}
-use Rattle.der.specs.Fit.{given_at}
+use Rattle.der.specs.Fit.{given_at, Fit}
 use Rattle.der.proofs.Fits.{applies_not, past_row}
 use Rattle.syntax.specs.Grammar.{free, end, required}
 use Rattle.syntax.specs.Asn.{EncapsulatedContentInfo}
@@ -14,8 +12,6 @@ use Rattle.syntax.proofs.Window.{Own}
 use Rattle.syntax.proofs.Fields.{lacks, only_field, field_in, placed}
 use Rattle.envelope.specs.declared.Signed.{Signed}
 use Rattle.envelope.specs.declared.Refusal.{Refusal}
-use Rattle.envelope.specs.declared.Envelope.{Envelope}
-use Rattle.envelope.specs.declared.Envelope.TheVariants as envelope
 use Rattle.envelope.specs.Parts.{encap_content_info, e_content_type, e_content_tag, subject_key_identifier, e_content as content_of, signed_attrs as attributesOf}
 use Rattle.envelope.specs.Rows.{row_4, row_9, envelope, Wrapped}
 
@@ -26,11 +22,11 @@ pub record Opens (s : List ℕ) (w : Signed) : Type 0 where
   pub signer : w.signer ≡ subject_key_identifier s
   pub attributes : w.attributes ≡ attributesOf s
 
-at_opened : (f : Fit) (answer : ℕ → Refusal) (next : Envelope) {w : Signed} → given_at f (λ o. envelope.Refused (answer o)) next ≡ envelope.Opened w
-    → (f ≡ Fits) × (next ≡ envelope.Opened w)
-at_opened f answer next e = past_row f _ next (λ o c. let z : ◌≡◌ {A = ℕ} 0 1 = cc in omega arith) e
+at_opened : (f : Fit) (answer : ℕ → Refusal) (next : Result Signed Refusal) {w : Signed} → given_at f (λ o. Err (answer o)) next ≡ Ok w
+    → (f ≡ Ok tt) × (next ≡ Ok w)
+at_opened f answer next e = past_row f _ next (λ o c. cc) e
 
-pub opens : (s : List ℕ) (w : Signed) → envelope s ≡ envelope.Opened w → Opens s w
+pub opens : (s : List ℕ) (w : Signed) → envelope s ≡ Ok w → Opens s w
 unfolding envelope
 opens s w e =
     let r1 = at_opened _ _ _ e in

@@ -1,13 +1,11 @@
 -- 01, Answers, status 7: the signed attributes.
-use Rattle.std.specs.Prelude.{ℕ, Bool, true, false, not, ◌&&◌, List}
+use Rattle.std.specs.Prelude.{ℕ, Bool, true, false, not, ◌&&◌, List, Err}
 use Rattle.octets.specs.Octets.{same, member, ordered}
 use Rattle.der.specs.declared.Element.{Element}
 use Rattle.der.specs.declared.Compared.TheVariants.{Types}
-use Rattle.der.specs.declared.Fit.{Fit}
-use Rattle.der.specs.declared.Fit.TheVariants.{Breaks}
 use Rattle.der.specs.Element.{encoding, inside}
 use Rattle.der.specs.Keys.{type_of, keys_from, keys_in}
-use Rattle.der.specs.Fit.{and_then, held, each}
+use Rattle.der.specs.Fit.{and_then, held, each, Fit}
 use Rattle.syntax.specs.Grammar.{Syntax, tagged, fit}
 use Rattle.syntax.specs.Asn.{Attribute, content_type_value, message_digest_value, other_value}
 use Rattle.syntax.specs.Types.{id_content_type, id_message_digest}
@@ -37,7 +35,7 @@ has_type s attributes type = member type (keys_in Types s attributes)
 unfoldable pub attributes_fit : List ℕ → List ℕ → Element → Element → Fit
 attributes_fit e_content_type s signer_info attributes =
     elim attributes.valid [
-      | false ↦ Breaks signer_info.at
+      | false ↦ Err signer_info.at
       | true ↦
           and_then
           (each

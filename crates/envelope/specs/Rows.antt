@@ -1,35 +1,38 @@
 -- 01, Answers: the rows 1, 29, 2, 3, 4, 9, 18, 5, 6, 7 and 8, each as its own definition, and their order.
--- Every row of the table of statuses (here, in message's specs/Rows, in protocol's specs/Acceptance) is a Fit that says whether the row applies: `Breaks o`
--- where it does, `Fits` where it does not. o is 02 E3's offset, 0 for a row that has none (`applies_if`). `given_at` gives the first that applies.
-use Rattle.std.specs.Prelude.{ℕ, Bool, true, false, not, ◌&&◌, ◌||◌, List, ◌≡◌, length}
+-- Every row of the table of statuses (here, in message's specs/Rows, in protocol's specs/Acceptance) is a Fit that says whether the row applies: `Err o`
+-- where it does, `Ok tt` where it does not. o is 02 E3's offset, 0 for a row that has none (`applies_if`). `given_at` gives the first that applies.
+use Rattle.envelope.specs.declared.Signed.{Signed}
+use Rattle.envelope.specs.declared.Refusal.{Refusal}
+use Rattle.std.specs.Prelude.{ℕ, Bool, true, false, not, ◌&&◌, ◌||◌, List, ◌≡◌, length, Option, Some, None, Result, Ok, Err}
 use Rattle.octets.specs.declared.Status.{Status}
 use Rattle.octets.specs.Status.{decode_failure, missing_signature, bad_content_info, bad_signed_data, bad_encap_content, missing_content, unsupported_tamp_msg_type}
 use Rattle.octets.specs.Status.{bad_certificate, bad_signer_info, bad_signed_attrs, bad_unsigned_attrs}
 use Rattle.octets.specs.Limits.{max_depth}
 use Rattle.der.specs.declared.Element.{Element}
-use Rattle.der.specs.declared.Fit.{Fit}
-use Rattle.der.specs.declared.Fit.TheVariants.{Fits}
 use Rattle.der.specs.Element.{absent, contents}
-use Rattle.der.specs.Fit.{held, kept, applies_if, given_at}
+use Rattle.der.specs.Fit.{held, kept, applies_if, given_at, Fit}
 use Rattle.der.specs.Check.{spans}
 use Rattle.syntax.specs.declared.TampType.{TampType}
-use Rattle.syntax.specs.declared.Recognised.{Recognised}
-use Rattle.syntax.specs.declared.Recognised.TheVariants.{Tamp, Unknown}
 use Rattle.syntax.specs.Grammar.{fit}
 use Rattle.syntax.specs.Asn.{ContentInfo, ContentInfoSignedData, OneSignedData, EncapsulatedContentInfo, OneSignerInfo}
 use Rattle.syntax.specs.Types.{recognised}
-use Rattle.envelope.specs.declared.Envelope.{Envelope}
-use Rattle.envelope.specs.declared.Envelope.TheVariants.{Opened, Refused}
-use Rattle.envelope.specs.declared.Given.{Given}
-use Rattle.envelope.specs.declared.Given.TheVariants.{Nothing, First}
 use Rattle.envelope.specs.Parts.{content_type, content, encap_content_info, certificates, crls, signer_infos, e_content_type, e_content_tag, e_content}
 use Rattle.envelope.specs.Parts.{signer_info, subject_key_identifier, signed_attrs, unsigned_attrs}
 use Rattle.envelope.specs.Attributes.{attributes_fit}
-use Rattle.envelope.specs.Given.{refusal, kind_of}
+use Rattle.syntax.specs.declared.TampType.TheVariants.{StatusQuery}
 
-abbrev pub is_tamp : Recognised → Bool
-is_tamp (Tamp t) = true
-is_tamp Unknown = false
+-- a refusal: its status, what its reply repeats of the message (msgType where it has a reply: "Statuses 1, 2, 3 and 4 have no reply"; msgRef: "with msgRef
+-- from 127 on, without it before"), and 02 E3's offset
+abbrev pub refusal_with : Status → Element → Element → ℕ → Refusal
+refusal_with status msgtype msgref offset = record { status = status; offset = offset; msgtype = msgtype; msgref = msgref }
+
+-- .. without msgRef
+abbrev pub refusal : Status → Element → ℕ → Refusal
+refusal status msgtype offset = refusal_with status msgtype (absent 0) offset
+
+abbrev pub is_tamp : Option TampType → Bool
+is_tamp (Some t) = true
+is_tamp None = false
 
 -- 1: not DER (0 octets too)
 unfoldable pub row_1 : List ℕ → Fit
@@ -59,7 +62,11 @@ row_9 s = applies_if (not (e_content_tag s).valid)
 unfoldable pub row_18 : List ℕ → Fit
 row_18 s = applies_if (not (is_tamp (recognised (contents s (e_content_type s)))))
 
--- after row 18, which of the four it is
+-- which of the four it is; what stands for the others is never handed on, as row 18 refuses them
+abbrev pub kind_of : Option TampType → TampType
+kind_of (Some t) = t
+kind_of None = StatusQuery
+
 unfoldable pub kind_in : List ℕ → TampType
 kind_in s = kind_of (recognised (contents s (e_content_type s)))
 
@@ -79,8 +86,8 @@ row_7 s = attributes_fit (contents s (e_content_type s)) s (signer_info s) (sign
 unfoldable pub row_8 : List ℕ → Fit
 row_8 s = let u = unsigned_attrs s in held u.at (not u.valid)
 
-abbrev pub refuse_message : Status → Element → ℕ → Envelope
-refuse_message status msgtype offset = Refused (refusal status msgtype offset)
+abbrev pub refuse_message : Status → Element → ℕ → Result Signed Refusal
+refuse_message status msgtype offset = Err (refusal status msgtype offset)
 
 -- the rows 2, 3, 4 and 9, and the rows 5, 6, 7 and 8: they ask nothing of the four types. Row 29 stands before them, row 18 between.
 module _ {A : Type 0} (refusing : Status → Element → ℕ → A) (s : List ℕ) where
@@ -99,7 +106,7 @@ module _ {A : Type 0} (refusing : Status → Element → ℕ → A) (s : List �
       (given_at (row_8 s) (refusing bad_unsigned_attrs (e_content_type s)) next)))
 
 -- what the rows up to 8 find
-unfoldable pub envelope : List ℕ → Envelope
+unfoldable pub envelope : List ℕ → Result Signed Refusal
 envelope s =
     let about = e_content_type s in
     given_at (row_1 s) (refuse_message decode_failure (absent 0))
@@ -107,23 +114,29 @@ envelope s =
     (content_rows refuse_message s
     (given_at (row_18 s) (refuse_message unsupported_tamp_msg_type about)
     (signer_rows refuse_message s
-    (Opened
+    (Ok
     (record { kind = kind_in s; msgtype = about; content = e_content s; signer = subject_key_identifier s; attributes = signed_attrs s }))))))
 
--- the same rows for a content of any type: without 29 and 18
-unfoldable pub wrapper : List ℕ → Given
+-- the same rows for a content of any type, without 29 and 18: their refusal, or nothing
+unfoldable pub wrapper : List ℕ → Result (Unit {0}) Refusal
 wrapper s =
-    let first : Status → Element → ℕ → Given = λ status msgtype offset. First (refusal status msgtype offset) in
-    given_at (row_1 s) (first decode_failure (absent 0)) (content_rows first s (signer_rows first s Nothing))
+    let first : Status → Element → ℕ → Result (Unit {0}) Refusal = λ status msgtype offset. Err (refusal status msgtype offset) in
+    given_at (row_1 s) (first decode_failure (absent 0)) (content_rows first s (signer_rows first s (Ok tt)))
+
+module _ {A : Type 0} where
+  -- the answer of the refusal, else what comes next
+  unfoldable pub given_first : Result (Unit {0}) Refusal → (Refusal → A) → A → A
+  given_first (Ok _) answer next = next
+  given_first (Err r) answer next = answer r
 
 -- none of them applies
 pub record Wrapped (s : List ℕ) : Type 0 where
-  pub der : row_1 s ≡ Fits
-  pub content_info : row_2 s ≡ Fits
-  pub signed_data : row_3 s ≡ Fits
-  pub encap_content : row_4 s ≡ Fits
-  pub e_content : row_9 s ≡ Fits
-  pub certificates : row_5 s ≡ Fits
-  pub signer_info : row_6 s ≡ Fits
-  pub signed_attrs : row_7 s ≡ Fits
-  pub unsigned_attrs : row_8 s ≡ Fits
+  pub der : row_1 s ≡ Ok tt
+  pub content_info : row_2 s ≡ Ok tt
+  pub signed_data : row_3 s ≡ Ok tt
+  pub encap_content : row_4 s ≡ Ok tt
+  pub e_content : row_9 s ≡ Ok tt
+  pub certificates : row_5 s ≡ Ok tt
+  pub signer_info : row_6 s ≡ Ok tt
+  pub signed_attrs : row_7 s ≡ Ok tt
+  pub unsigned_attrs : row_8 s ≡ Ok tt

@@ -1,10 +1,11 @@
 -- How long a listing is: never over 8,192 octets (at most 5,015).
+use Rattle.std.specs.Prelude.{Option, Some, None, Result}
+use Rattle.anchor.specs.declared.AnchorFault.{AnchorFault}
 use Prim.Native.Nat.{ℕ, zero, suc, ◌+◌, ◌-◌, ◌*◌, ◌/◌, ◌%◌, ◌≤◌}
 use native.Mathlib.Nat.{mul-suc}
 use native.Mathlib.Omega.{arith}
 use mathlib.Core.Bool.{Bool, true, false, not, and-eq-true_iff, true≢false}
 use mathlib.Core.List.{List, [], ◌∷◌, ◌++◌, flat_map}
-use mathlib.Core.Option.{Option, none, some}
 use mathlib.Core.Path.{◌≡◌, refl, sym, ap, ◌∙◌}
 use lib.ListN.{length, drop, length-append, length-map, length-take}
 use lib.Dec.{leb, eqb}
@@ -18,7 +19,6 @@ use Rattle.octets.specs.Number.{digits}
 use Rattle.octets.proofs.Lists.{by_test}
 use Rattle.octets.proofs.Placed.{length-placed}
 use Rattle.syntax.specs.Asn.{StoredTrustAnchorInfo}
-use Rattle.anchor.specs.declared.AnchorCheck.{AnchorCheck}
 use Rattle.anchor.specs.declared.AnchorRole.{AnchorRole}
 use Rattle.anchor.specs.declared.AnchorRole.TheVariants.{Apex, Management, Identity}
 use Rattle.anchor.specs.Info.{key_identifier}
@@ -34,7 +34,7 @@ use Rattle.listing.specs.Contract.Texts.{hex_within, hex_line}
 use Rattle.listing.proofs.Texts.{hex_line-length, decimal_line-length, count-length}
 
 -- an answer that is no pass was not given
-past : (b : Bool) (answer next : AnchorCheck) → passes answer ≡ false → passes (given_if b answer next) ≡ true → (b ≡ false) × (passes next ≡ true)
+past : (b : Bool) (answer next : Result (Unit {0}) AnchorFault) → passes answer ≡ false → passes (given_if b answer next) ≡ true → (b ≡ false) × (passes next ≡ true)
 unfolding given_if
 past true answer next h e = absurd (true≢false (sym e ∙ h))
 past false answer next h e = (refl, e)
@@ -85,8 +85,8 @@ length-decimal n =
 
 length-number : (o : Option ℕ) → length (number_text o) ≤ 20
 unfolding number_text ascii codes_from
-length-number none = omega arith
-length-number (some n) = length-decimal n
+length-number None = omega arith
+length-number (Some n) = length-decimal n
 
 length_role : (role : AnchorRole) → length (role_text role) ≤ 10
 unfolding role_text ascii codes_from
@@ -168,8 +168,8 @@ unfolding listing listing_of ascii codes_from
 listing-length image = go (decode image) refl
   where
     go : (o : Option Store) → decode image ≡ o → length (listing_of o) ≤ 8192
-    go none e = omega arith
-    go (some σ) e = omega (arith, length_text σ (decode-well_formed image σ e))
+    go None e = omega arith
+    go (Some σ) e = omega (arith, length_text σ (decode-well_formed image σ e))
 
 -- after `list`, the text is a beginning of the lent buffer
 pub text_fits : (out image now : List ℕ) {n : ℕ} → length out ≡ 8192 → (n ≡ length (listing image)) × (now ≡ written out (listing image)) → n ≤ length now

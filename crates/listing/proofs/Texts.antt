@@ -1,10 +1,10 @@
 -- The texts that are written (specs/Contract/Texts): how each goes on at a turn, and that they are those of the rule book (01, Checked examples).
+use Rattle.std.specs.Prelude.{Option, Some, None}
 use Prim.Native.Nat.{ℕ, zero, suc, ◌+◌, ◌-◌, ◌/◌, ◌%◌, ◌≤◌, ◌<◌}
 use native.Mathlib.Numerals.{add-one}
 use native.Mathlib.Omega.{arith}
 use mathlib.Core.Bool.{Bool, true, false, true≢false}
 use mathlib.Core.List.{List, [], ◌∷◌, ◌++◌, map, flat_map, append_assoc, map-append}
-use mathlib.Core.Option.{Option, none, some}
 use mathlib.Core.Path.{◌≡◌, refl, sym, ap, ◌∙◌}
 use lib.ListN.{length, get_or, drop, length-append, drop_of_length-le}
 use lib.Seq.{drop-cons}
@@ -12,21 +12,29 @@ use borrow.Author.Tests.{eq-eqb, ne_eqb, lt-ltb, le-ltb}
 use Rattle.octets.specs.Ascii.{ascii, codes_from}
 use Rattle.octets.specs.Number.{digits}
 use Rattle.octets.proofs.Number.{digits-none, digits_turn}
+use Rattle.octets.specs.Octets.{placed}
+use Rattle.octets.proofs.Placed.{length-placed}
 use Rattle.anchor.specs.declared.AnchorRole.{AnchorRole}
 use Rattle.anchor.specs.declared.AnchorRole.TheVariants.{Apex, Management, Identity}
 use Rattle.anchor.specs.Role.{role_of}
 use Rattle.store.specs.Store.{Store}
 use Rattle.store.specs.Image.{decode}
-use Rattle.store.specs.Records.{records_from}
-use Rattle.store.specs.Contract.Parts.{hw_type_in, serial_in, anchor_count, first_record, record_end, record_at, info_in, identifier_in, number_in, anchor_in, name_end, name_at}
-use Rattle.store.specs.Contract.Parts.{names_from}
+use Rattle.store.specs.Contract.Parts.{hw_type_in, serial_in, anchor_count, first_record, info_in, identifier_in, number_in, anchor_in}
 use Rattle.store.specs.Contract.Parts.{community_count, community_octets, communities_of}
 use Rattle.store.specs.Listing.{hex_digit, hex, decimal, blank, newline, role_text, anchor_line, anchor_lines, count_line, store_text, listing_of, listing}
-use Rattle.store.proofs.Walk.{records_of_lem, records_turn, names_turn}
+use Rattle.store.proofs.Walk.{records_of_lem}
 use Rattle.store.proofs.Parts.{parts, count_of_anchors, count_of_communities}
 use Rattle.image.specs.Contract.Check.{is_given, is_image}
 use Rattle.listing.specs.Contract.Texts.{hex_line, decimal_digits, decimal_line, number_line, role_field, key_line, record_line, record_lines, name_lines}
 use Rattle.listing.specs.Contract.Texts.{device_line, anchors_text, communities_text, image_text}
+
+-- what a call says of a part that it writes, but for the size; and what is said of a whole, with it
+pub part : {A B C : Type 0} → A × B × C → B × C
+part k = (k.1, k.2)
+
+pub whole : (d : List ℕ) (at : ℕ) (s : List ℕ) {m : ℕ} {r : List ℕ} → at + length s ≤ length d → (m ≡ at + length s) × (r ≡ placed d at s)
+    → (length r ≡ length d) × (m ≡ at + length s) × (r ≡ placed d at s)
+whole d at s h k = (ap length k.1 ∙ length-placed d at s h, k.0, k.1)
 
 -- hex
 
@@ -114,33 +122,23 @@ module _ (i : ℕ) (r : List ℕ) {info : List ℕ} {role : AnchorRole} (p : inf
   pub line_length : length (record_line i r) ≡ length (decimal i) + (1 + (length (role_field role) + length (key_line r)))
   line_length = ap length line_is ∙ simp length-append (omega arith)
 
-pub lines_turn : (s : List ℕ) (p i n : ℕ) {r : List ℕ} {e : ℕ} → i < n → r ≡ record_at s p → e ≡ record_end s p
-    → record_lines i (n - i) (drop p s) ≡ record_line i r ++ record_lines (i + 1) (n - (i + 1)) (drop e s)
-unfolding record_lines record_line anchor_lines
-lines_turn s p i n h u v =
-    let k : n - i ≡ suc (n - (i + 1)) = omega arith in
-    ap (λ (m : ℕ). anchor_lines i (map anchor_in (records_from m (drop p s)))) k
-    ∙ ap (λ (l : List (List ℕ)). anchor_lines i (map anchor_in l)) (records_turn s (n - (i + 1)) p)
-    ∙ rw (u, v, add-one i)
+-- the lines of the records left, of which the first has the position i, and of the names left
+pub lines_turn : {l rest : List (List ℕ)} {r : List ℕ} (i : ℕ) {m k : ℕ} → l ≡ r ∷ rest → m ≡ i → k ≡ i + 1
+    → anchor_lines i (map anchor_in l) ≡ record_line m r ++ anchor_lines k (map anchor_in rest)
+unfolding record_line anchor_lines
+lines_turn i e f g = ap (λ l. anchor_lines i (map anchor_in l)) e ∙ rw (f, g, add-one i)
 
-pub lines_end : (s : List ℕ) (i n : ℕ) → n ≤ i → record_lines i (n - i) s ≡ []
-unfolding record_lines records_from anchor_lines
-lines_end s i n h =
-    let k : n - i ≡ 0 = omega arith in
-    rw k
+pub lines_end : (i : ℕ) {l : List (List ℕ)} → l ≡ [] → anchor_lines i (map anchor_in l) ≡ []
+unfolding anchor_lines
+lines_end i e = rw e
 
-pub names_line : (s : List ℕ) (p more : ℕ) {x : List ℕ} {e : ℕ} → 0 < more → x ≡ name_at s p → e ≡ name_end s p
-    → name_lines more (drop p s) ≡ hex_line x ++ name_lines (more - 1) (drop e s)
-unfolding name_lines flat_map
-names_line s p more h u v =
-    let k : more ≡ suc (more - 1) = omega arith in
-    ap (λ (m : ℕ). flat_map hex_line (names_from m (drop p s))) k ∙ ap (flat_map hex_line) (names_turn s (more - 1) p) ∙ rw (u, v)
+pub names_turn : {l rest : List (List ℕ)} {x : List ℕ} → l ≡ x ∷ rest → flat_map hex_line l ≡ hex_line x ++ flat_map hex_line rest
+unfolding flat_map
+names_turn e = ap (flat_map hex_line) e
 
-pub names_end : (s : List ℕ) (more : ℕ) → more ≤ 0 → name_lines more s ≡ []
-unfolding name_lines names_from flat_map
-names_end s more h =
-    let k : more ≡ 0 = omega arith in
-    rw k
+pub names_end : {l : List (List ℕ)} → l ≡ [] → flat_map hex_line l ≡ []
+unfolding flat_map
+names_end e = ap (flat_map hex_line) e
 
 -- the sections
 
@@ -174,7 +172,7 @@ unfolding image_text
 image-length image = simp length-append
 
 -- an image that breaks no rule, and its store
-text_is : (image : List ℕ) (σ : Store) → decode image ≡ some σ → image_text image ≡ store_text σ
+text_is : (image : List ℕ) (σ : Store) → decode image ≡ Some σ → image_text image ≡ store_text σ
 unfolding image_text device_line anchors_text communities_text store_text hex_line record_lines name_lines communities_of
 text_is image σ e =
     let p = parts image σ e in
@@ -186,13 +184,13 @@ unfolding listing listing_of
 valid_listing image {b} p h = go (decode image) refl
   where
     go : (o : Option Store) → decode image ≡ o → image_text image ≡ listing_of o
-    go none e = absurd (true≢false (sym h ∙ p ∙ ap is_given e))
-    go (some σ) e = text_is image σ e
+    go None e = absurd (true≢false (sym h ∙ p ∙ ap is_given e))
+    go (Some σ) e = text_is image σ e
 
 pub bad_listing : (image : List ℕ) {b : Bool} → b ≡ is_image image → b ≡ false → ascii "refused 201\n" ≡ listing image
 unfolding listing listing_of
 bad_listing image {b} p h = go (decode image) refl
   where
     go : (o : Option Store) → decode image ≡ o → ascii "refused 201\n" ≡ listing_of o
-    go none e = refl
-    go (some σ) e = absurd (true≢false (sym (p ∙ ap is_given e) ∙ h))
+    go None e = refl
+    go (Some σ) e = absurd (true≢false (sym (p ∙ ap is_given e) ∙ h))

@@ -1,32 +1,27 @@
 -- What a message that passed the rows up to 127 is known to have.
+use Rattle.std.specs.Prelude.{Result, Ok, Err}
 use Prim.Native.Nat.{ℕ, ◌≤◌}
 use mathlib.Core.Bool.{true}
 use mathlib.Core.List.{List}
-use mathlib.Core.Path.{◌≡◌, refl, sym}
-use native.Mathlib.Omega.{arith}
+use mathlib.Core.Path.{◌≡◌, refl}
 use Rattle.octets.specs.Limits.{max_number}
 use Rattle.octets.specs.Octets.{Octets}
 use Rattle.der.specs.declared.Element.{Element}
-use Rattle.der.specs.declared.Fit.{Fit}
-use Rattle.der.specs.declared.Fit.TheVariants.{Fits, Breaks}
 use Rattle.der.specs.Element.{contents}
 use Rattle.der.specs.Contents.{oid_ok}
-use Rattle.der.specs.Fit.{given_at}
+use Rattle.der.specs.Fit.{given_at, Fit}
+use Rattle.der.proofs.Fits.{past_row}
 use Rattle.syntax.specs.declared.TampType.{TampType}
 use Rattle.syntax.specs.declared.TampType.TheVariants.{Update, CommunityUpdate}
 use Rattle.syntax.proofs.Each.{Every}
 use Rattle.syntax.proofs.Window.{Own}
 use Rattle.envelope.specs.declared.Signed.{Signed}
 use Rattle.envelope.specs.declared.Refusal.{Refusal}
-use Rattle.envelope.specs.declared.Envelope.{Envelope}
-use Rattle.envelope.specs.declared.Envelope.TheVariants as envelope
 use Rattle.envelope.specs.Rows.{envelope}
 use Rattle.envelope.proofs.Opening.{opens, content_own}
 use Rattle.message.specs.declared.Request.{Request}
-use Rattle.message.specs.declared.Received.{Received}
-use Rattle.message.specs.declared.Received.TheVariants.{Asks, Refused}
 use Rattle.message.specs.Fields.{body_in, entries_in, seq_numbers_in, additions_in}
-use Rattle.message.specs.Rows.{row_36, in_message, content_fit, row_31, row_127, request_in, unwrapped, received_of, received}
+use Rattle.message.specs.Rows.{row_36, in_message, request_in, unwrapped, received_of, received}
 use Rattle.message.proofs.Entries.{Adding, entries_adding}
 use Rattle.message.proofs.Parts.{Body, body_parts, msg_ref-number, seq_numbers_small, additions_ok}
 
@@ -34,41 +29,32 @@ use Rattle.message.proofs.Parts.{Body, body_parts, msg_ref-number, seq_numbers_s
 pub record Asked (s : List ℕ) (q : Request) : Type 0 where
   pub wrapper : Signed
   pub own : Own s wrapper.content
-  pub passed : row_36 wrapper.kind (contents s wrapper.content) ≡ Fits
+  pub passed : row_36 wrapper.kind (contents s wrapper.content) ≡ Ok tt
   pub is : q ≡ request_in s wrapper (body_in s wrapper.content)
 
--- an answer that asks comes from no row that refuses
-asks_past : (f : Fit) (answer : ℕ → Received) (next : Received) (q : Request) → ((o : ℕ) → answer o ≡ Asks q → ⊥) → given_at f answer next ≡ Asks q
-    → (f ≡ Fits) × (next ≡ Asks q)
-unfolding given_at
-asks_past Fits answer next q n h = (refl, h)
-asks_past (Breaks o) answer next q n h = absurd (n o h)
+-- a row that refuses does not ask
+asks_past : (f : Fit) (answer : ℕ → Refusal) (next : Result Request Refusal) (q : Request) → given_at f (λ o. Err (answer o)) next ≡ Ok q → (f ≡ Ok tt) × (next ≡ Ok q)
+asks_past f answer next q h = past_row f _ next (λ o c. cc) h
 
-refused≢asks : (r : Refusal) (q : Request) → Refused r ≡ Asks q → ⊥
-refused≢asks r q e = let z : ◌≡◌ {A = ℕ} 0 1 = cc in omega arith
-
-asks_same : (p q : Request) → Asks p ≡ Asks q → p ≡ q
-asks_same p q e = cc
-
-no_break : (s : List ℕ) (e : Element) (f : Fit) → in_message s e f ≡ Fits → f ≡ Fits
+no_break : (s : List ℕ) (e : Element) (f : Fit) → in_message s e f ≡ Ok tt → f ≡ Ok tt
 unfolding in_message
-no_break s e Fits h = refl
-no_break s e (Breaks o) h = absurd (let z : ◌≡◌ {A = ℕ} 0 1 = cc in omega arith)
+no_break s e (Ok _) h = refl
+no_break s e (Err o) h = cc
 
-of_unwrapped : (s : List ℕ) (w : Signed) (q : Request) → Own s w.content → unwrapped s w ≡ Asks q → Asked s q
+of_unwrapped : (s : List ℕ) (w : Signed) (q : Request) → Own s w.content → unwrapped s w ≡ Ok q → Asked s q
 unfolding unwrapped
 of_unwrapped s w q o h =
-    let two = asks_past (content_fit s w) _ _ q (λ o. refused≢asks _ q) h in
-    let one = asks_past (row_31 s (body_in s w.content)) _ _ q (λ o. refused≢asks _ q) two.1 in
-    let is = asks_same _ q (asks_past (row_127 w.kind s (body_in s w.content)) _ _ q (λ o. refused≢asks _ q) one.1).1 in
-    record { wrapper = w; own = o; passed = no_break s w.content _ two.0; is = sym is }
+    let two = asks_past _ _ _ q h in
+    let one = asks_past _ _ _ q two.1 in
+    let is = asks_past _ _ _ q one.1 in
+    record { wrapper = w; own = o; passed = no_break s w.content _ two.0; is = cc }
 
-of_received : (s : List ℕ) (v : Envelope) (q : Request) → envelope s ≡ v → received_of s v ≡ Asks q → Asked s q
+of_received : (s : List ℕ) (v : Result Signed Refusal) (q : Request) → envelope s ≡ v → received_of s v ≡ Ok q → Asked s q
 unfolding received_of
-of_received s (envelope.Opened w) q e h = of_unwrapped s w q (content_own s w (opens s w e)) h
-of_received s (envelope.Refused r) q e h = absurd (refused≢asks r q h)
+of_received s (Ok w) q e h = of_unwrapped s w q (content_own s w (opens s w e)) h
+of_received s (Err r) q e h = cc
 
-pub asked : (s : List ℕ) (q : Request) → received s ≡ Asks q → Asked s q
+pub asked : (s : List ℕ) (q : Request) → received s ≡ Ok q → Asked s q
 unfolding received
 asked s q h = of_received s (envelope s) q refl h
 
@@ -80,7 +66,7 @@ module _ (s : List ℕ) (q : Request) (a : Asked s q) where
   unfolding request_in
   parts k = rw (← k, a.is) (body_parts s a.wrapper.content a.own a.wrapper.kind a.passed)
 
-  passed : {kind : TampType} → q.kind ≡ kind → row_36 kind (contents s a.wrapper.content) ≡ Fits
+  passed : {kind : TampType} → q.kind ≡ kind → row_36 kind (contents s a.wrapper.content) ≡ Ok tt
   unfolding request_in
   passed k = rw (← k, a.is) a.passed
 
@@ -100,7 +86,7 @@ module _ (s : List ℕ) (q : Request) (a : Asked s q) where
   unfolding request_in
   additions_of k = rw a.is (additions_ok s body (parts k))
 
-module _ (s : List ℕ) (q : Request) (h : received s ≡ Asks q) where
+module _ (s : List ℕ) (q : Request) (h : received s ≡ Ok q) where
   -- RFC 5934: the number of every message is a SeqNumber
   pub asked_number : Octets s → q.number ≤ max_number
   asked_number o = number_of s q (asked s q h)

@@ -1,4 +1,6 @@
 -- 02, E3: what row 36 charges: eContent, an identifier octet of its element, or the first octet behind that.
+use Rattle.std.specs.Prelude.{Ok, Err}
+use Rattle.der.specs.Fit.{Fit}
 use Prim.Native.Nat.{ℕ, ◌+◌, ◌<◌}
 use native.Mathlib.Omega.{arith}
 use mathlib.Core.Bool.{true, false}
@@ -9,8 +11,6 @@ use lib.Dec.{ltb}
 use borrow.Author.Tests.{lt-ltb, le-ltb}
 use Rattle.octets.specs.Limits.{max_depth}
 use Rattle.der.specs.declared.Element.{Element}
-use Rattle.der.specs.declared.Fit.{Fit}
-use Rattle.der.specs.declared.Fit.TheVariants.{Fits, Breaks}
 use Rattle.der.specs.Element.{root, contents}
 use Rattle.der.specs.Check.{spans}
 use Rattle.der.specs.Identifier.{IdentifierOctet}
@@ -33,7 +33,7 @@ message_opens SeqNumAdjust = refl
 
 -- in eContent by itself
 content_charges : {X : Type 0} (kind : TampType) (c : List ℕ) {p : ℕ} → (length c ≡ 0 → p ≡ 0 → X) → (p < length c → IdentifierOctet c p (root c) → X)
-    → ((root c).valid ≡ true → p < length c → p ≡ (root c).stop → X) → row_36 kind c ≡ Breaks p → X
+    → ((root c).valid ≡ true → p < length c → p ≡ (root c).stop → X) → row_36 kind c ≡ Err p → X
 unfolding row_36
 content_charges kind c f g h =
     then_charges (spans max_depth c 0 (length c) 0) (fit (syntax_of kind) c 0 (length c) 0)
@@ -42,14 +42,14 @@ content_charges kind c f g h =
 
 -- .. and in the message
 module _ {X : Type 0} (s : List ℕ) (e : Element) {o : ℕ} where
-  placed_in : (f : Fit) → ((p : ℕ) → f ≡ Breaks p → elim (ltb p (length (contents s e))) [ true ↦ e.start + p | false ↦ e.at ] ≡ o → X) → in_message s e f ≡ Breaks o → X
+  placed_in : (f : Fit) → ((p : ℕ) → f ≡ Err p → elim (ltb p (length (contents s e))) [ true ↦ e.start + p | false ↦ e.at ] ≡ o → X) → in_message s e f ≡ Err o → X
   unfolding in_message
-  placed_in Fits k h = absurd (breaks≢fits (sym h))
-  placed_in (Breaks p) k h = k p refl (cc)
+  placed_in (Ok _) k h = absurd (breaks≢fits (sym h))
+  placed_in (Err p) k h = k p refl (cc)
 
   pub row_36_charges : (kind : TampType) → let c = contents s e in
       (length c ≡ 0 → o ≡ e.at → X) → ((p : ℕ) → p < length c → IdentifierOctet c p (root c) → o ≡ e.start + p → X)
-      → ((root c).valid ≡ true → (root c).stop < length c → o ≡ e.start + (root c).stop → X) → in_message s e (row_36 kind c) ≡ Breaks o → X
+      → ((root c).valid ≡ true → (root c).stop < length c → o ≡ e.start + (root c).stop → X) → in_message s e (row_36 kind c) ≡ Err o → X
   row_36_charges kind f g h =
       let c = contents s e in
       let there : (p : ℕ) → p < length c → elim (ltb p (length c)) [ true ↦ e.start + p | false ↦ e.at ] ≡ o → o ≡ e.start + p =

@@ -1,5 +1,6 @@
 -- 01, After acceptance, Update, add: a TrustAnchorInfo of a message that passed row 36 is by itself DER of RFC 5914's syntax.
 -- It stands at depth 5 of the message, so 12 levels are left to it there, and by itself it may have 16.
+use Rattle.std.specs.Prelude.{Ok}
 use Prim.Native.Nat.{ℕ}
 use native.Mathlib.Omega.{arith}
 use mathlib.Core.Bool.{true}
@@ -11,7 +12,6 @@ use borrow.Author.Tests.{eqb-true}
 use Rattle.octets.specs.Limits.{max_depth}
 use Rattle.octets.proofs.Lists.{by_test}
 use Rattle.der.specs.declared.Element.{Element}
-use Rattle.der.specs.declared.Fit.TheVariants.{Fits}
 use Rattle.der.specs.Element.{element_at, elements, inside, encoding, field, constructed}
 use Rattle.der.specs.Fit.{and_then, kept}
 use Rattle.der.specs.Check.{der, spans}
@@ -42,14 +42,14 @@ Adding s entry.AddCertificate = Unit {0}
 Adding s (entry.Remove e) = Unit {0}
 Adding s entry.Change = Unit {0}
 
-conforming : (s : List ℕ) (at stop : ℕ) (e : Element) → Found 0x30 TrustAnchorInfo s at stop e → der 12 s e ≡ Fits → Conforming (encoding s e)
+conforming : (s : List ℕ) (at stop : ℕ) (e : Element) → Found 0x30 TrustAnchorInfo s at stop e → der 12 s e ≡ Ok tt → Conforming (encoding s e)
 conforming s at stop e f h =
     ap kept
     (then_fits _ (spans-alone s e f.own max_depth (deeper_to 12 max_depth s e (omega arith) h))
     ∙ fits_alone s e f.own StoredTrustAnchorInfo 0 (as_only 0x30 TrustAnchorInfo s at stop 0 e f))
 
 -- an entry, with 14 levels left: add has a TrustAnchorChoice in it, which has 13, and taInfo a TrustAnchorInfo
-entry-adding : (s : List ℕ) (outer : ℕ) (e : Element) → Own s e → fit TrustAnchorUpdate s e.at e.stop outer ≡ Fits → der 14 s e ≡ Fits
+entry-adding : (s : List ℕ) (outer : ℕ) (e : Element) → Own s e → fit TrustAnchorUpdate s e.at e.stop outer ≡ Ok tt → der 14 s e ≡ Ok tt
     → Adding s (entry_of s e)
 unfolding entry_of alternative field_in lacks only_field
 entry-adding s outer e o h d =
@@ -64,13 +64,13 @@ entry-adding s outer e o h d =
     let own = own s e.start e.stop refl f.valid in
     let k = choice_fits TrustAnchorChoice s e.at 0xA2 choice own (eqb-true choice.tag 0xA2 u) (rw w.here f.alone) in
     let p = placed 0x30 s (required 0x30 TrustAnchorInfo end) choice.start choice.stop choice.at k in
-    let members : Every (λ m. der 13 s m ≡ Fits) (choice ∷ elements s choice.stop e.stop) =
+    let members : Every (λ m. der 13 s m ≡ Ok tt) (choice ∷ elements s choice.stop e.stop) =
     rw (elements_turn s e.start e.stop refl f.valid) at (inside-der 13 s e d (rw q))
     in
     let c : constructed choice.tag ≡ true = rw (eqb-true choice.tag 0xA2 u) in
     rw (t, u, entry_of)
     (conforming s choice.start choice.stop (field 0x30 s choice) p.0
-    (tagged-member (λ m. der 12 s m ≡ Fits) 0x30 (inside s choice) (inside-der 12 s choice members.0 c) p.0.own.valid)))
+    (tagged-member (λ m. der 12 s m ≡ Ok tt) 0x30 (inside s choice) (inside-der 12 s choice members.0 c) p.0.own.valid)))
     (λ u. rw (t, u, entry_of) tt))
     (λ t. by_test (eqb e.tag 0xA2) (λ u. rw (t, u, entry_of) tt) (λ u. rw (t, u, entry_of) tt))
 
@@ -81,8 +81,8 @@ entries_adding s body b =
     let u = updates_found Update s body (obeys not_empty (many TrustAnchorUpdate)) _ refl b in
     let outer = updates.at in
     let P : Element → Type 0 = Member s updates.start updates.stop in
-    let Q : Element → Type 0 = λ m. (m.valid ≡ true) × (fit TrustAnchorUpdate s m.at m.stop outer ≡ Fits) in
-    let R : Element → Type 0 = λ m. der 14 s m ≡ Fits in
+    let Q : Element → Type 0 = λ m. (m.valid ≡ true) × (fit TrustAnchorUpdate s m.at m.stop outer ≡ Ok tt) in
+    let R : Element → Type 0 = λ m. der 14 s m ≡ Ok tt in
     let all = inside s updates in
     every_map (entry_of s) (Adding s) all
     (every_weaken (λ m. (P m × Q m) × R m) (λ m. Adding s (entry_of s m))

@@ -1,6 +1,5 @@
+pub mod Unfolded
 pub mod Parts
 pub mod Entries
 pub mod Asked
-pub mod Fields
-pub mod Rows
 pub mod Charged

@@ -1,4 +1,5 @@
 -- The fields of a message that passed row 36: what `Fields` finds are the fields of RFC 5934's syntax.
+use Rattle.std.specs.Prelude.{Ok}
 use Prim.Native.Nat.{ℕ, suc, ◌+◌, ◌-◌, ◌≤◌}
 use native.Mathlib.Omega.{arith}
 use mathlib.Core.Bool.{true, false}
@@ -10,7 +11,6 @@ use Rattle.octets.specs.Limits.{max_depth, max_number}
 use Rattle.octets.proofs.Lists.{by_test}
 use Rattle.octets.proofs.Parts.{length-slice}
 use Rattle.der.specs.declared.Element.{Element}
-use Rattle.der.specs.declared.Fit.TheVariants.{Fits}
 use Rattle.der.specs.Element.{element_at, elements, inside, contents, with_tag, field, constructed}
 use Rattle.der.specs.Contents.{oid_ok, contents_ok}
 use Rattle.der.specs.Fit.{kept}
@@ -41,14 +41,14 @@ after_msg_ref SeqNumAdjust = end
 -- what stands in the message
 pub record Body (kind : TampType) (s : List ℕ) (body : Element) : Type 0 where
   pub own : Own s body
-  pub checked : der max_depth s body ≡ Fits
+  pub checked : der max_depth s body ≡ Ok tt
   pub sequence : constructed body.tag ≡ true
   pub msg_ref : Found 0x30 TAMPMsgRef s body.start body.stop (msg_ref_in s body)
-  pub after : fit (after_msg_ref kind) s (msg_ref_in s body).stop body.stop body.at ≡ Fits
+  pub after : fit (after_msg_ref kind) s (msg_ref_in s body).stop body.stop body.at ≡ Ok tt
 
 module _ (s : List ℕ) (content : Element) (own : Own s content) where
   -- what the octets of eContent have, the message has in it
-  there : (g : Syntax) → fit g (contents s content) 0 (length (contents s content)) 0 ≡ Fits → fit g s content.start content.stop content.at ≡ Fits
+  there : (g : Syntax) → fit g (contents s content) 0 (length (contents s content)) 0 ≡ Ok tt → fit g s content.start content.stop content.at ≡ Ok tt
   there g h =
       let w = own_within s content own in
       let n : length (contents s content) ≡ content.stop - content.start = length-slice s content.start (content.stop - content.start) (omega arith) in
@@ -59,7 +59,7 @@ module _ (s : List ℕ) (content : Element) (own : Own s content) where
       ∙ fit-moved s content.start content.stop (omega arith) (omega arith) g 0 (content.stop - content.start) content.at 0 (omega arith)
       ∙ ap kept (rw n at h))
 
-  checked_there : spans max_depth (contents s content) 0 (length (contents s content)) 0 ≡ Fits → der max_depth s (body_in s content) ≡ Fits
+  checked_there : spans max_depth (contents s content) 0 (length (contents s content)) 0 ≡ Ok tt → der max_depth s (body_in s content) ≡ Ok tt
   unfolding body_in
   checked_there h =
       let w = own_within s content own in
@@ -75,14 +75,14 @@ module _ (s : List ℕ) (content : Element) (own : Own s content) where
       ∙ der-moved s content.start content.stop (omega arith) (omega arith) max_depth e (omega (arith, two.1))
       ∙ ap kept two.0)
 
-  body-found : (g : Syntax) → fit (required 0x30 g end) (contents s content) 0 (length (contents s content)) 0 ≡ Fits
+  body-found : (g : Syntax) → fit (required 0x30 g end) (contents s content) 0 (length (contents s content)) 0 ≡ Ok tt
       → Found 0x30 g s content.start content.stop (body_in s content)
   unfolding body_in
   body-found g h =
       let f = one_fits s content.start content.stop content.at refl (optional 0x30 g end) end (there (required 0x30 g end) h) in
       chosen s content.start content.stop content.at refl f.valid 0x30 g f.alone
 
-  body_with : (kind : TampType) (g : Syntax) → spans max_depth (contents s content) 0 (length (contents s content)) 0 ≡ Fits
+  body_with : (kind : TampType) (g : Syntax) → spans max_depth (contents s content) 0 (length (contents s content)) 0 ≡ Ok tt
       → (f : Found 0x30 g s content.start content.stop (body_in s content))
       → Placed 0x30 s (body_in s content).start (body_in s content).stop (body_in s content).at (msg_ref_in s (body_in s content))
       (Place.must TAMPMsgRef (after_msg_ref kind))
@@ -90,7 +90,7 @@ module _ (s : List ℕ) (content : Element) (own : Own s content) where
   body_with kind g d f p =
       record { own = f.own; checked = checked_there d; sequence = rw f.tag; msg_ref = p.0; after = p.1 }
 
-  pub body_parts : (kind : TampType) → row_36 kind (contents s content) ≡ Fits → Body kind s (body_in s content)
+  pub body_parts : (kind : TampType) → row_36 kind (contents s content) ≡ Ok tt → Body kind s (body_in s content)
   unfolding row_36 syntax_of msg_ref_in field_in lacks only_field
   body_parts StatusQuery h =
       let two = then_both _ _ h in
@@ -131,7 +131,7 @@ unfolding field_in lacks only_field
 pair-number s at stop e f =
     number-found s e.start e.stop (field 0x02 s e) (placed 0x02 s TAMPSequenceNumber e.start e.stop e.at f.fits).0
 
-module _ (s : List ℕ) (content : Element) (own : Own s content) (h : row_36 Update (contents s content) ≡ Fits) where
+module _ (s : List ℕ) (content : Element) (own : Own s content) (h : row_36 Update (contents s content) ≡ Ok tt) where
   seq_numbers_placed : let body = body_in s content in
       Placed 0xA2 s body.start body.stop body.at (field 0xA2 s body) (Place.may TAMPSequenceNumbers)
   unfolding row_36 syntax_of field_in lacks only_field
@@ -161,14 +161,14 @@ module _ (s : List ℕ) (content : Element) (own : Own s content) (h : row_36 Up
 
 -- the updates after msgRef
 pub updates_found : (kind : TampType) (s : List ℕ) (body : Element) (g next : Syntax) → after_msg_ref kind ≡ required 0x30 g next → Body kind s body
-    → Found 0x30 g s (msg_ref_in s body).stop body.stop (updates_in s body (msg_ref_in s body)) × (der 15 s (updates_in s body (msg_ref_in s body)) ≡ Fits)
+    → Found 0x30 g s (msg_ref_in s body).stop body.stop (updates_in s body (msg_ref_in s body)) × (der 15 s (updates_in s body (msg_ref_in s body)) ≡ Ok tt)
 unfolding updates_in msg_ref_in field_in lacks only_field
 updates_found kind s body g next q b =
     let msg_ref = field 0x30 s body in
     let p : Placed 0x30 s msg_ref.stop body.stop body.at (with_tag 0x30 (elements s msg_ref.stop body.stop)) (Place.must g next) =
     placed 0x30 s (required 0x30 g next) msg_ref.stop body.stop body.at (rw q at b.after)
     in
-    let P : Element → Type 0 = λ m. der 15 s m ≡ Fits in (
+    let P : Element → Type 0 = λ m. der 15 s m ≡ Ok tt in (
       p.0,
       tagged-member P 0x30 (elements s msg_ref.stop body.stop)
           (after-member P 0x30 s body.start body.stop (inside-der 15 s body b.checked b.sequence) b.msg_ref.own.valid)
@@ -176,7 +176,7 @@ updates_found kind s body g next q b =
     )
 
 -- an OID that passed status 1's rules
-oid-found : (d : ℕ) (s : List ℕ) (at stop : ℕ) (e : Element) → Found 0x06 free s at stop e → der (suc d) s e ≡ Fits → oid_ok (contents s e) ≡ true
+oid-found : (d : ℕ) (s : List ℕ) (at stop : ℕ) (e : Element) → Found 0x06 free s at stop e → der (suc d) s e ≡ Ok tt → oid_ok (contents s e) ≡ true
 unfolding contents_ok
 oid-found d s at stop e f h =
     let primitive : constructed e.tag ≡ false = rw f.tag in
@@ -185,11 +185,11 @@ oid-found d s at stop e f h =
 
 -- a CommunityIdentifierList with a context tag
 oids_found : (d : ℕ) (s : List ℕ) (at stop : ℕ) (t : ℕ) (e : Element) → constructed t ≡ true → Found t CommunityIdentifierList s at stop e
-    → der (suc (suc d)) s e ≡ Fits → Every (λ o. oid_ok o ≡ true) (oids_in s e)
+    → der (suc (suc d)) s e ≡ Ok tt → Every (λ o. oid_ok o ≡ true) (oids_in s e)
 unfolding oids_in
 oids_found d s at stop t e c f h =
     let P : Element → Type 0 = Found 0x06 free s e.start e.stop in
-    let Q : Element → Type 0 = λ m. der (suc d) s m ≡ Fits in
+    let Q : Element → Type 0 = λ m. der (suc d) s m ≡ Ok tt in
     every_map (contents s) (λ o. oid_ok o ≡ true) (inside s e)
     (every_weaken (λ m. P m × Q m) (λ m. oid_ok (contents s m) ≡ true) (λ m k. oid-found d s e.start e.stop m k.0 k.1) (inside s e)
     (every_both P Q (inside s e)
@@ -207,5 +207,5 @@ module _ (s : List ℕ) (body : Element) (b : Body CommunityUpdate s body) where
       by_test list.valid
       (λ g.
       oids_found 12 s updates.start updates.stop 0xA2 list refl (p.0 g)
-      (tagged-member (λ m. der 14 s m ≡ Fits) 0xA2 (inside s updates) (inside-der 14 s updates u.1 (rw u.0.tag)) g))
+      (tagged-member (λ m. der 14 s m ≡ Ok tt) 0xA2 (inside s updates) (inside-der 14 s updates u.1 (rw u.0.tag)) g))
       (λ g. rw (p.1 g, elements_end s 0 0 (omega arith)) tt)

@@ -4,12 +4,11 @@
 ghost use Rattle.std.specs.Prelude.{◌≡◌, length};
 ghost use Rattle.der.specs.Element.{encoding as encodingOf, contents as contentsOf, inside};
 ghost use Rattle.der.specs.Fit.{applies_if};
-ghost use Rattle.envelope.specs.Given.{given_first};
 ghost use Rattle.message.specs.Fields.{seq_number_in, entry_of};
 ghost use Rattle.message.specs.Rows.{row_36, content_fit, row_127, has_terse, request_in, unwrapped, received};
 
-use der::{Element, Fit};
-use envelope::{Envelope, Given, Refusal, Signed};
+use der::{Element, Fit, Run};
+use envelope::{Refusal, Signed};
 use octets::Status;
 use syntax::{Form, TampType};
 
@@ -34,13 +33,6 @@ pub struct Request {
     pub numbers: Element,
 }
 
-// What depends on the message alone: what it asks, or its refusal.
-#[derive(Clone, Copy)]
-pub enum Received {
-    Asks(Request),
-    Refused(Refusal),
-}
-
 // An entry of an Update: an added TrustAnchorInfo, an added certificate or tbsCert, a removed key as the message tags it, or a change.
 #[derive(Clone, Copy)]
 pub enum Entry {
@@ -51,80 +43,53 @@ pub enum Entry {
 }
 
 // 36: eContent is not DER, depth counted afresh, or isn't its message's syntax.
+#[tactic(auto, unfolding(crate::specs::Rows::row_36, der::specs::Fit::and_then, syntax::specs::Contract::Forms::form_syntax))]
 fn body_fit(kind: TampType, content: &[u8]) -> Fit
     ensures { result ≡ row_36 kind content.now }
 {
     let n = content.len();
-    if let Fit::Breaks(o) = der::spans(content, 0, n, 0, octets::MAX_DEPTH) {
-        return Fit::Breaks(o);
-    }
+    der::spans(content, 0, n, 0, octets::MAX_DEPTH)?;
     syntax::fits(Form::Message(kind), content, 0, n, 0)
 }
 
 // .. with the offset in the message.
+#[tactic(auto, unfolding(crate::specs::Rows::in_message))]
 fn content_fit(s: &[u8], w: Signed) -> Fit
     ensures { result ≡ content_fit s.now w }
 {
     let content = envelope::e_content(s, w);
     let e = w.content;
     let start = e.start;
-    let kind = w.kind;
-    let fit = body_fit(kind, content);
-    let Fit::Breaks(o) = fit else {
-        return fit;
-    };
-    if o < content.len() {
-        return Fit::Breaks(start + o);
-    }
-    Fit::Breaks(e.at)
+    body_fit(w.kind, content).map_err(|o| if o < content.len() { start + o } else { e.at })
 }
 
+#[tactic(auto, unfolding(crate::specs::Rows::has_terse))]
 fn has_terse(kind: TampType) -> bool
     ensures { result ≡ has_terse kind }
 {
-    match kind {
-        TampType::StatusQuery => true,
-        TampType::Update => true,
-        TampType::CommunityUpdate => true,
-        TampType::SeqNumAdjust => false,
-    }
+    !matches!(kind, TampType::SeqNumAdjust)
 }
 
 // 127: a verbose reply is wanted.
+#[tactic(auto, unfolding(crate::specs::Rows::row_127, crate::specs::Fields::terse_in))]
 fn wants_verbose(kind: TampType, s: &[u8], body: Element) -> bool
     ensures { applies_if result ≡ row_127 kind s.now body }
 {
-    if !has_terse(kind) {
-        return false;
-    }
     let terse = der::field(s, body, der::CONTEXT_1);
-    !terse.valid
-}
-
-// What the rows give, else what is asked.
-fn passed(given: Given, q: Request) -> Received
-    ensures { result ≡ given_first given Received.Refused (Received.Asks q) }
-{
-    match given {
-        Given::First(r) => Received::Refused(r),
-        Given::Nothing => Received::Asks(q),
-    }
+    has_terse(kind) && !terse.valid
 }
 
 // What the message asks whose SEQUENCE in eContent is body.
+#[tactic(auto, unfolding(crate::proofs::Unfolded::request))]
 fn request_in(s: &[u8], w: Signed, body: Element) -> Request
     ensures { result ≡ request_in s.now w body }
 {
-    let kind = w.kind;
-    let about = w.msgtype;
-    let signer = w.signer;
-    let attributes = w.attributes;
     let msgref = der::field(s, body, der::SEQUENCE);
     Request {
-        kind: kind,
-        msgtype: about,
-        signer: signer,
-        attributes: attributes,
+        kind: w.kind,
+        msgtype: w.msgtype,
+        signer: w.signer,
+        attributes: w.attributes,
         msgref: msgref,
         target: der::element_at(s, msgref.start, msgref.stop),
         number: number_in(s, der::field(s, msgref, der::INTEGER)),
@@ -134,33 +99,31 @@ fn request_in(s: &[u8], w: Signed, body: Element) -> Request
 }
 
 // What is in the wrapper, by the rows 36, 31 and 127.
-fn unwrap(s: &[u8], w: Signed) -> Received
+#[tactic(auto, unfolding(crate::proofs::Unfolded::table))]
+fn unwrap(s: &[u8], w: Signed) -> Result<Request, Refusal>
     ensures { result ≡ unwrapped s.now w }
 {
-    let kind = w.kind;
     let about = w.msgtype;
-    let content = w.content;
-    let body = der::element_at(s, content.start, content.stop);
+    let body = der::element_at(s, w.content.start, w.content.stop);
+    envelope::row(content_fit(s, w), Status::MALFORMED, about)?;
     let version = der::field(s, body, der::CONTEXT_0);
+    envelope::row_if(version.valid, Status::VERSION_NUMBER_MISMATCH, about)?;
     let q = request_in(s, w, body);
-    let given = Given::Nothing
-        .or_at(content_fit(s, w), Status::MALFORMED, about)
-        .or_if(version.valid, Status::VERSION_NUMBER_MISMATCH, about)
-        .or_ref(wants_verbose(kind, s, body), Status::OTHER, about, q.msgref);
-    passed(given, q)
+    let verbose = wants_verbose(w.kind, s, body);
+    envelope::row_ref(verbose, Status::OTHER, about, q.msgref)?;
+    Ok(q)
 }
 
 // The rows up to 127: what depends on the message alone.
-pub fn receive(s: &[u8]) -> Received
+#[tactic(auto, unfolding(crate::specs::Rows::received, crate::specs::Rows::received_of))]
+pub fn receive(s: &[u8]) -> Result<Request, Refusal>
     ensures { result ≡ received s.now }
 {
-    match envelope::open(s) {
-        Envelope::Opened(w) => unwrap(s, w),
-        Envelope::Refused(r) => Received::Refused(r),
-    }
+    unwrap(s, envelope::open(s)?)
 }
 
-// The signer's key identifier, msgRef and the target, as parts of the message.
+// The signer's key identifier, msgRef and the target, as parts of the message. Functions, not methods of the request: it holds places, and `q.msg_ref(s)` would
+// name the message as well.
 pub fn key_identifier(s: &[u8], q: Request) -> &[u8]
     ensures { result.now ≡ contentsOf s.now q.signer }
 {
@@ -180,6 +143,7 @@ pub fn target_octets(s: &[u8], q: Request) -> &[u8]
 }
 
 // The number in the contents of a SeqNumber.
+#[tactic(auto, unfolding(crate::specs::Fields::seq_number_in))]
 pub fn number_in(s: &[u8], e: Element) -> u64
     ensures { result ≡ seq_number_in s.now e }
 {
@@ -187,34 +151,27 @@ pub fn number_in(s: &[u8], e: Element) -> u64
 }
 
 // An entry of an Update.
+#[tactic(auto, unfolding(crate::specs::Fields::entry_of))]
 pub fn entry_of(s: &[u8], e: Element) -> Entry
     ensures { result ≡ entry_of s.now e }
 {
-    if e.tag == der::CONSTRUCTED_1 {
-        let choice = der::element_at(s, e.start, e.stop);
-        if choice.tag == der::CONSTRUCTED_2 {
-            let info = der::field(s, choice, der::SEQUENCE);
-            return Entry::Add(info);
+    match e.tag {
+        der::CONSTRUCTED_1 => {
+            let choice = der::element_at(s, e.start, e.stop);
+            if choice.tag == der::CONSTRUCTED_2 {
+                Entry::Add(der::field(s, choice, der::SEQUENCE))
+            } else {
+                Entry::AddCertificate
+            }
         }
-        return Entry::AddCertificate;
+        der::CONSTRUCTED_2 => Entry::Remove(e),
+        _ => Entry::Change,
     }
-    if e.tag == der::CONSTRUCTED_2 {
-        return Entry::Remove(e);
-    }
-    Entry::Change
 }
 
 // How many elements are inside e: the entries of an Update.
 pub fn entry_count(s: &[u8], e: Element) -> usize
     ensures { result ≡ length (inside s.now e) }
 {
-    let stop = e.stop;
-    let mut at = e.start;
-    let mut n = 0;
-    while at < stop {
-        let m = der::element_at(s, at, stop);
-        n += 1;
-        at = der::next(m, stop);
-    }
-    n
+    Run::inside(s, e).count()
 }

@@ -1,4 +1,4 @@
--- `same` and `ordered` as a loop reads them: octet by octet, `same` from the last on, `ordered` from the first.
+-- `same` as a loop reads it, from the last octet on; `ordered` as the library's order.
 use Prim.Native.Nat.{ℕ, ◌+◌, ◌≤◌, ◌<◌}
 use native.Mathlib.Numerals.{add-one}
 use native.Mathlib.Omega.{arith}
@@ -7,7 +7,13 @@ use mathlib.Core.List.{List, [], ◌∷◌}
 use mathlib.Core.Path.{◌≡◌, refl, sym, ap, ◌∙◌}
 use lib.ListN.{length, get_or, drop, drop_of_length-le}
 use lib.Seq.{drop-cons}
-use borrow.Author.Tests.{eq-eqb, ne_eqb, lt-ltb, le-ltb}
+use borrow.Author.Tests.{eq-eqb, le-ltb}
+use Rattle.std.proofs.Common.{nat_cmp}
+use Rattle.std.specs.declared.cmp.Ordering.{Ordering}
+use Rattle.std.specs.Ordering.{is_le}
+use Rattle.std.specs.Cmp.Lexicographic.{slice_cmp}
+use Rattle.std.proofs.lemmas.Cmp.{same_from_slice_cmp}
+use Rattle.std.proofs.lemmas.Bool.Decides.{nat_tests}
 use Rattle.octets.specs.Octets.{same, ordered}
 use Rattle.octets.proofs.Lists.{same_refl, ≢→same}
 
@@ -32,32 +38,10 @@ module _ (s t : List ℕ) where
   pub rest_all : drop 0 s ≡ drop 0 t → same s t ≡ true
   rest_all e = rw e (same_refl t)
 
-module _ (s t : List ℕ) (i : ℕ) where
-  pub ordered_end : length s ≤ i → ordered (drop i s) (drop i t) ≡ true
-  unfolding ordered
-  ordered_end p = rw (drop_of_length-le s p)
-
-  pub ordered_short : i < length s → length t ≤ i → ordered (drop i s) (drop i t) ≡ false
-  unfolding ordered
-  ordered_short p q = rw (drop-cons s i 0 p, drop_of_length-le t q)
-
-  pub ordered_less : i < length s → i < length t → get_or s i 0 < get_or t i 0 → ordered (drop i s) (drop i t) ≡ true
-  unfolding ordered
-  ordered_less p q l = rw (drop-cons s i 0 p, drop-cons t i 0 q, lt-ltb _ _ l)
-
-  pub ordered_more : i < length s → i < length t → get_or t i 0 < get_or s i 0 → ordered (drop i s) (drop i t) ≡ false
-  unfolding ordered
-  ordered_more p q l =
-      let n : get_or t i 0 ≤ get_or s i 0 = omega arith in
-      let m : get_or s i 0 ≡ get_or t i 0 → ⊥ = λ e. omega arith in
-      rw (drop-cons s i 0 p, drop-cons t i 0 q, le-ltb _ _ n, ne_eqb _ _ m)
-
-  pub ordered_turn : i < length s → i < length t → get_or s i 0 ≡ get_or t i 0
-      → ordered (drop i s) (drop i t) ≡ ordered (drop (i + 1) s) (drop (i + 1) t)
-  unfolding ordered
-  ordered_turn p q e =
-      let n : get_or t i 0 ≤ get_or s i 0 = omega arith in
-      rw (add-one, drop-cons s i 0 p, drop-cons t i 0 q, le-ltb _ _ n, eq-eqb _ _ e)
+-- the library's order is that of X.690, 11.6
+pub ordered_by_cmp : (s t : List ℕ) (o : Ordering) → o ≡ slice_cmp nat_cmp s t → is_le o ≡ ordered s t
+unfolding ordered
+ordered_by_cmp = same_from_slice_cmp nat_cmp is_le ordered refl (λ _ _. refl) (λ _ _. refl) (λ x y xs ys o h. grind (arith, nat_tests))
 
 pub ordered_refl : (s : List ℕ) → ordered s s ≡ true
 unfolding ordered

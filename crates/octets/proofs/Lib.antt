@@ -1,7 +1,9 @@
 pub mod Lists
+pub mod Chains
+pub mod Views
 pub mod Compare
 pub mod Parts
 pub mod Placed
 pub mod Turns
 pub mod Number
-pub mod First
+pub mod Options

@@ -1,13 +1,14 @@
 -- Laws of numbers in octets, over any width.
 use Prim.Native.Nat.{ℕ, zero, suc, ◌+◌, ◌-◌, ◌*◌, ◌/◌, ◌%◌, ◌^◌, ◌≤◌, ◌<◌}
-use native.Mathlib.Nat.{div-add-mod', div-lt_iff_lt-mul, mod-lt, mul_assoc, mul-one, one-mul, pow-suc, pow-succ', pow-zero, le_refl, lt_of_lt_of_le}
-use native.Mathlib.Nat.{pow-le-pow_right}
+use native.Mathlib.Nat.{div-add-mod', div-lt_iff_lt-mul, mod-lt, mul_assoc, mul-one, mul-suc, one-mul, pow-suc, pow-succ', pow-zero, le_refl, lt_of_lt_of_le}
+use native.Mathlib.Nat.{pow-le-pow_right, le-div_iff_mul-le, mul-div-le}
+use Rattle.std.proofs.Common.{pow-add}
 use native.Mathlib.Numerals.{add-one}
 use native.Mathlib.Omega.{arith}
 use mathlib.Core.List.{List, [], ◌∷◌, ◌++◌}
 use mathlib.Core.Path.{◌≡◌, refl, sym, ap, ap₂, ◌∙◌}
 use lib.ListN.{length, get_or, take, drop, length-append, length-take, get_or-eq_default, get_or-append}
-use lib.Seq.{length-take-le, take-suc, take_all, get_or-take, get_or-drop, get_or_at, take_at, take-take}
+use lib.Seq.{length-take-le, take-suc, take_all, get_or-take, get_or-drop}
 use lib.Dec.{eqb, ltb, lit<}
 use lib.Arith.{digits_lt, digits_div, digits_mod}
 use borrow.Author.Tests.{eq-eqb, ne_eqb, eqb-true, eqb-false, ltb-true, ltb-false}
@@ -118,25 +119,6 @@ big_endian_of (suc k) s e o =
 pub big_endian-number : (s : List ℕ) → Octets s → big_endian (length s) (number s) ≡ s
 big_endian-number s o = big_endian_of (length s) s refl o
 
--- writing the last octet first: the octet at place i, and those before it, where the first j of m are still to write
-module _ (m : List ℕ) (j i n : ℕ) (e : j ≡ i + 1) (s : take j m ≡ big_endian j n) where
-  last : take (suc i) m ≡ big_endian (suc i) n
-  last = let q : j ≡ suc i = omega arith in rw q at s
-
-  pub last_octet : n % 256 ≡ get_or m i 0
-  unfolding big_endian
-  last_octet =
-      sym (get_or_at (big_endian i (n / 256)) (n % 256) [] 0 i (length-big_endian i (n / 256)))
-      ∙ ap (λ (r : List ℕ). get_or r i 0) (sym last)
-      ∙ get_or-take (suc i) m i 0 (omega arith)
-
-  pub rest_octets : take i m ≡ big_endian i (n / 256)
-  unfolding big_endian
-  rest_octets =
-      sym (take-take i (suc i) m (omega arith))
-      ∙ ap (take i) last
-      ∙ take_at (big_endian i (n / 256)) (n % 256 ∷ []) i (length-big_endian i (n / 256))
-
 -- the digits of a number, with no zero in front
 
 module _ (b k n : ℕ) where
@@ -161,6 +143,34 @@ length_digits (suc k) n =
     by_test (eqb n 0)
     (λ e. rw (digits-none 256 k n (eqb-true n 0 e)) (omega arith))
     (λ e. rw (digits_turn 256 k n (eqb-false n 0 e), length-append (digits 256 k (n / 256)) (n % 256 ∷ [])) (omega arith))
+
+-- how many digits there are, by powers of 256 and by powers of 2
+pub digits_long : (k i n : ℕ) → 256 ^ i ≤ n → n < 256 ^ suc i → i < k → length (digits 256 k n) ≡ suc i
+unfolding digits
+digits_long zero i n low high l = absurd (omega arith)
+digits_long (suc k) i n low high l =
+    let start : 0 ≤ i = omega arith in
+    let one : 256 ^ 0 ≤ 256 ^ i = pow-le-pow_right (lit< tt) start in
+    let q : n ≡ 0 → ⊥ = λ z. omega (arith, rw (pow-zero 256) at one) in
+    let below : n / 256 < 256 ^ i = (div-lt_iff_lt-mul (lit< tt)).1 (rw (pow-suc 256 i) at high) in
+    rw (digits_turn 256 k n q, length-append (digits 256 k (n / 256)) (n % 256 ∷ [])) (add-one _ ∙ ap suc (rest (λ i. digits_long k i (n / 256)) i low below l))
+  where
+    rest : ((i : ℕ) → 256 ^ i ≤ n / 256 → n / 256 < 256 ^ suc i → i < k → length (digits 256 k (n / 256)) ≡ suc i)
+        → (i : ℕ) → 256 ^ i ≤ n → n / 256 < 256 ^ i → i < suc k → length (digits 256 k (n / 256)) ≡ i
+    rest ih zero low below l = let z : n / 256 ≡ 0 = omega (arith, rw (pow-zero 256) at below) in rw (z, digits-zero k) refl
+    rest ih (suc i) low below l = ih i ((le-div_iff_mul-le (lit< tt)).1 (rw (pow-suc 256 i) at low)) below (omega arith)
+
+eights : (i : ℕ) → 2 ^ (8 * i) ≡ 256 ^ i
+eights zero = refl
+eights (suc i) = rw (mul-suc 8 i, pow-add 2 (8 * i) 8, eights i, pow-suc 256 i) refl
+
+pub digits_of_bits : (k m n : ℕ) → n < 2 ^ m → 2 ^ m ≤ 2 * n + 1 → m ≤ 8 * k → length (digits 256 k n) ≡ (m + 7) / 8
+digits_of_bits k zero n high low l = let z : n ≡ 0 = omega (arith, rw (pow-zero 2) at high) in rw (z, digits-zero k) refl
+digits_of_bits k (suc j) n high low l =
+    let i = j / 8 in
+    let under : 2 ^ (8 * i) ≤ 2 ^ j = pow-le-pow_right (lit< tt) (mul-div-le j 8) in
+    let over : 2 ^ suc j ≤ 2 ^ (8 * suc i) = pow-le-pow_right (lit< tt) (omega arith) in
+    digits_long k i n (omega (arith, eights i, under, pow-suc 2 j)) (omega (arith, eights (suc i), over)) (omega arith) ∙ omega arith
 
 pub digits-big_endian : (k n : ℕ) → digits 256 k n ≡ big_endian (length (digits 256 k n)) n
 unfolding digits big_endian

@@ -2,7 +2,7 @@
 #![tactic(auto)]
 
 ghost use Rattle.std.specs.Prelude.{◌≡◌};
-ghost use Rattle.octets.specs.First.{refuses as isRefusal, or_status};
+ghost use Rattle.octets.specs.First.{given_if};
 
 mod limits;
 mod numbers;
@@ -13,11 +13,12 @@ pub use limits::{
     MAX_ENTRIES, MAX_KEY_IDENTIFIER, MAX_MESSAGE, MAX_NAME_OCTETS, MAX_NUMBER, MAX_UPDATES,
     MAX_VALUE_OCTETS, MAX_VALUES, REPLY_ROOM,
 };
-pub use numbers::{digit_count, get_be, put_be, wide};
-pub use strings::{copy_to, equal, in_order, move_down, move_up, slice};
+pub use numbers::{digit_count, get_be, put_be};
+pub use strings::{copy_to, equal, in_order, shift, slice};
 
 // A number of 01, "Answers": a TAMP status (RFC 5934, section 5) or a house refusal.
-#[derive(Clone, Copy)]
+// Its numbers are associated constants and not variants: 01 asks for that form (docs/DECISIONS.md).
+#[derive(Clone, Copy, Debug, PartialEq, Eq)]
 pub struct Status {
     pub number: u8,
 }
@@ -91,22 +92,11 @@ impl Status {
 
     pub const LONG_REPLY: Status = Status { number: 205 };
 
-    pub fn refuses(self) -> bool
-        ensures { result ≡ isRefusal self }
+    // "The first that applies is given", with `?` at each row: this one, where its row applies.
+    #[tactic(auto, unfolding(crate::specs::First::given_if))]
+    pub fn given_if(self, applies: bool) -> Result<(), Status>
+        ensures { result ≡ given_if applies (Err self) (Ok tt) }
     {
-        0 < self.number
-    }
-
-    // "The first that applies is given": this one where it refuses, else the next where its row applies.
-    pub fn or_if(self, applies: bool, next: Status) -> Status
-        ensures { result ≡ or_status self applies next }
-    {
-        if self.refuses() {
-            return self;
-        }
-        if applies {
-            return next;
-        }
-        self
+        if applies { Err(self) } else { Ok(()) }
     }
 }

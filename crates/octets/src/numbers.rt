@@ -3,30 +3,16 @@ ghost use Rattle.std.specs.Prelude.{◌≡◌, ◌+◌, ◌<◌, ◌≤◌, ◌^
 ghost use Rattle.octets.specs.Octets.{placed};
 ghost use Rattle.octets.specs.Number.{number, big_endian, digits};
 
-// An octet as a number.
-pub fn wide(x: u8) -> usize
-    ensures { result ≡ x }
-{
-    x as usize
-}
+use crate::strings::slice;
 
 // The number that the octets from place at on write: `width` of them, as many as there are, and 8 at most.
 pub fn get_be(s: &[u8], at: usize, width: usize) -> u64
     ensures { (result ≡ number (take (min width 8) (drop at s.now))) × (result < 256 ^ width) }
 {
-    let mut n: u64 = 0;
-    let mut i = 0;
-    let mut p = at;
-    while i < 8 {
-        if i == width {
-            return n;
-        }
-        if s.len() <= p {
-            return n;
-        }
-        n = n * 256 + (wide(s[p]) as u64);
-        p += 1;
-        i += 1;
+    let part = slice(s, at, at.saturating_add(width.min(8)));
+    let mut n = 0;
+    for x in part {
+        n = n * 256 + u64::from(*x);
     }
     n
 }
@@ -37,9 +23,7 @@ pub fn put_be(dst: &mut [u8], at: usize, width: usize, n: u64)
     ensures { dst.new ≡ placed dst.old at (big_endian width n) }
 {
     let mut rest = n;
-    let mut j = width;
-    while 0 < j {
-        j -= 1;
+    for j in (0..width).rev() {
         dst[at + j] = (rest % 256) as u8;
         rest /= 256;
     }
@@ -49,11 +33,5 @@ pub fn put_be(dst: &mut [u8], at: usize, width: usize, n: u64)
 pub fn digit_count(n: u64) -> usize
     ensures { result ≡ length (digits 256 8 n) }
 {
-    let mut rest = n;
-    let mut k = 0;
-    while 0 < rest {
-        rest /= 256;
-        k += 1;
-    }
-    k
+    (u64::BITS - n.leading_zeros()).div_ceil(8) as usize
 }

@@ -1,7 +1,7 @@
 -- All definitions on the way of a call and of the listing, named once, crate by crate: a theorem that computes says `unfolding computed`.
 unfoldable computed_octets : Unit {0}
 unfolding
-    mathlib.Core.List.flat_map mathlib.Core.Option.Option-elim mathlib.Core.Option.or_else Rattle.octets.specs.Ascii.codes_from
+    mathlib.Core.List.flat_map Rattle.octets.specs.Ascii.codes_from
     Rattle.octets.specs.Ascii.ascii Rattle.octets.specs.Ascii.digit_value Rattle.octets.specs.Ascii.digit_pairs Rattle.octets.specs.Ascii.octets_of
     Rattle.octets.specs.First.given_if Rattle.octets.specs.Lists.all_of Rattle.octets.specs.Lists.any_of Rattle.octets.specs.Lists.filter
     Rattle.octets.specs.Lists.distinct_by Rattle.octets.specs.Number.number_from Rattle.octets.specs.Number.big_endian
@@ -44,7 +44,7 @@ unfoldable computed_anchor : Unit {0}
 unfolding
     Rattle.anchor.specs.Info.version Rattle.anchor.specs.Info.public_key Rattle.anchor.specs.Info.key_id_field
     Rattle.anchor.specs.Info.cert_path Rattle.anchor.specs.Info.extensions Rattle.anchor.specs.Info.constraints_in
-    Rattle.anchor.specs.Info.constraints_extension Rattle.anchor.specs.Info.rights_of Rattle.anchor.specs.Judge.check_status
+    Rattle.anchor.specs.Info.constraints_extension Rattle.anchor.specs.Info.rights_of Rattle.anchor.specs.Judge.check_status Rattle.anchor.specs.Judge.fault_status
     Rattle.anchor.specs.Judge.conforms Rattle.anchor.specs.Judge.repeated_extension Rattle.anchor.specs.Judge.critical_extension
     Rattle.anchor.specs.Judge.bad_constraints Rattle.anchor.specs.Judge.repeated_constraint Rattle.anchor.specs.Judge.any_content_type_unlike
     Rattle.anchor.specs.Judge.identifier_outside Rattle.anchor.specs.Judge.over_entries Rattle.anchor.specs.Judge.over_attributes
@@ -80,7 +80,7 @@ unfolding
     Rattle.envelope.specs.Rows.row_29 Rattle.envelope.specs.Rows.row_2 Rattle.envelope.specs.Rows.row_3 Rattle.envelope.specs.Rows.row_4
     Rattle.envelope.specs.Rows.row_9 Rattle.envelope.specs.Rows.row_18 Rattle.envelope.specs.Rows.kind_in Rattle.envelope.specs.Rows.row_5 Rattle.envelope.specs.Rows.row_6
     Rattle.envelope.specs.Rows.row_7 Rattle.envelope.specs.Rows.row_8
-    Rattle.envelope.specs.Rows.envelope Rattle.envelope.specs.Rows.wrapper Rattle.envelope.specs.Given.given_first
+    Rattle.envelope.specs.Rows.envelope Rattle.envelope.specs.Rows.wrapper Rattle.envelope.specs.Rows.given_first
 computed-envelope = tt
 
 unfoldable computed-message : Unit {0}

@@ -1,8 +1,8 @@
 -- The theorem of demand 3 (specs/Demand3), from the law of each step (Steps) and of the next store (WellFormed).
+use Rattle.std.specs.Prelude.{Some}
 use Prim.Native.Nat.{ℕ}
 use mathlib.Core.Bool.{true, false}
 use mathlib.Core.List.{List, [], ◌∷◌, map}
-use mathlib.Core.Option.{some}
 use mathlib.Core.Path.{◌≡◌, refl, sym, ◌∙◌, ap, subst}
 use Rattle.octets.specs.declared.Status.{Status}
 use Rattle.rights.specs.Rights.{Rights, Content, authorises}
@@ -37,7 +37,7 @@ records_of-holders content σ w =
     (keep_map _ (may content) encode_anchor (λ a. ap (λ t. authorises (rights_of t) content) (info_of_record a)) σ.others)
 
 module _ (content : Content) (σ : Store) (w : well_formed σ ≡ true) (g : Inputs)
-    (u : (rights : Rights) → accepted_signer (encode σ) g ≡ some rights → authorises rights content ≡ false) where
+    (u : (rights : Rights) → accepted_signer (encode σ) g ≡ Some rights → authorises rights content ≡ false) where
   left-same : (next : List ℕ) → next ≡ encode σ → Unmoved content σ next
   left-same next e = record { store = σ; image = e; valid = w; kept = refl }
 

@@ -1,3 +1,4 @@
+pub mod Accepted
 pub mod Computed
 pub mod Examples
 pub mod OffsetExamples
@@ -14,6 +15,7 @@ pub mod NotEmpty
 pub mod AddExamples
 pub mod ValidStore
 pub mod Demand2
+pub mod Signers
 pub mod Permit
 pub mod Desk
 pub mod DeskExample

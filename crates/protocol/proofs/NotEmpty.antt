@@ -1,9 +1,9 @@
 -- The example of specs/NotEmpty, by computing.
+use Rattle.std.specs.Prelude.{Some}
 use Prim.Native.Nat.{ℕ, zero, suc}
 use native.Mathlib.Omega.{arith}
 use mathlib.Core.Bool.{true, and-eq-true_iff}
 use mathlib.Core.List.{List, [], ◌∷◌}
-use mathlib.Core.Option.{some}
 use mathlib.Core.Path.{◌≡◌, refl, sym, ◌∙◌, ap}
 use lib.ListN.{length}
 use lib.Dec.{ltb, lit<}
@@ -31,7 +31,7 @@ unfolding computed
 message_octets = octets_of message refl
 
 -- the message is accepted, and its signer's rights authorise the content
-pub accepted : accepted_signer image (enrolment message_octets) ≡ some manager
+pub accepted : accepted_signer image (enrolment message_octets) ≡ Some manager
 unfolding computed signer_in signer_of
 accepted = refl
 

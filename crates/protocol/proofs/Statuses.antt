@@ -1,10 +1,11 @@
 -- 01, Answers: "All else is an answer with a TAMP status". Every status that a call answers with is below 128, so that it is one octet of an ENUMERATED; a house refusal is 201 or above.
 -- And every outcome has the offset that 02, E3, says (`Outcomes`).
+use Rattle.std.specs.Prelude.{Option, Some, None, Result, Ok, Err}
+use Rattle.envelope.specs.declared.Refusal.{Refusal}
 use Prim.Native.Nat.{ℕ, ◌≤◌, ◌<◌}
 use native.Mathlib.Omega.{arith}
 use mathlib.Core.Bool.{Bool, false}
 use mathlib.Core.List.{List}
-use mathlib.Core.Option.{Option, none, some}
 use mathlib.Core.Path.{◌≡◌, refl}
 use lib.ListN.{length}
 use lib.Dec.{ltb}
@@ -19,8 +20,6 @@ use Rattle.store.specs.Store.{Store}
 use Rattle.store.specs.Image.{decode}
 use Rattle.message.specs.declared.Request.{Request}
 use Rattle.message.specs.Fields.{entries_in}
-use Rattle.protocol.specs.declared.Judgement.{Judgement}
-use Rattle.protocol.specs.declared.Judgement.TheVariants.{Refuses, Accepts}
 use Rattle.protocol.specs.Acceptance.{judgement}
 use Rattle.protocol.specs.Community.{community_status}
 use Rattle.protocol.specs.Effect.{query_effect, adjust_effect, community_effect, update_effect, effect_of, effect}
@@ -57,18 +56,18 @@ module _ (s : List ℕ) where
   Outcomes (refused number) = (201 ≤ number.number) × (carries_offset number ≡ false)
   Outcomes (answered status offset reply next) = Told s status offset
 
-  answer_told : (image : List ℕ) (σ : Store) (j : Judgement) → InJudgement s j → Outcomes (answer_of s image σ j)
+  answer_told : (image : List ℕ) (σ : Store) (j : Result (Request × ℕ) Refusal) → InJudgement s j → Outcomes (answer_of s image σ j)
   unfolding answer_of effect
-  answer_told image σ (Refuses r) h = h
-  answer_told image σ (Accepts q i) h = effect_of_told q.kind q _ _
+  answer_told image σ (Err r) h = h
+  answer_told image σ (Ok (q, i)) h = effect_of_told q.kind q _ _
 
   pub call_told : (image verdict : List ℕ) (reply_lent next_lent : ℕ) → Outcomes (call s image verdict reply_lent next_lent)
   unfolding call call_of call_on guarded carries_offset any_of
   call_told image verdict reply_lent next_lent = go (decode image)
     where
       go : (o : Option Store) → Outcomes (call_of o s image verdict reply_lent next_lent)
-      go none = (omega arith, refl)
-      go (some σ) =
+      go None = (omega arith, refl)
+      go (Some σ) =
           let P : Outcome → Type 0 = Outcomes in
           by_given P _ (λ _. (omega arith, refl)) (λ _.
           by_given P _ (λ _. (omega arith, refl)) (λ _.

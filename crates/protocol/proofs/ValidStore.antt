@@ -1,9 +1,10 @@
 -- The rights that a store's anchors have are valid ones (rights, proofs/Witness): the image is octets, a stored anchor passes every check of an add up to 17 for size, and the apex's one type is an OID.
+use Rattle.std.specs.Option.{option_map_or}
+use Rattle.std.specs.Prelude.{Some}
 use Prim.Native.Nat.{ℕ, zero, suc}
 use native.Mathlib.Omega.{arith}
 use mathlib.Core.Bool.{true, and-eq-true_iff}
 use mathlib.Core.List.{List, [], ◌∷◌, ◌++◌, map, flat_map}
-use mathlib.Core.Option.{Option-elim, some}
 use mathlib.Core.Path.{◌≡◌, refl}
 use lib.ListN.{length, get_or}
 use lib.Dec.{leb}
@@ -43,7 +44,7 @@ unfolding all_of anchor_ok storable
 others_valid [] o g = tt
 others_valid (a ∷ l) o g =
     let h = (and-eq-true_iff (anchor_ok a) (all_of anchor_ok l)).0 g in
-    let s = ((and-eq-true_iff (Option-elim a.number true (λ n. leb n max_number)) (storable a.info)).0 h.0).1 in
+    let s = ((and-eq-true_iff (option_map_or (λ n. leb n max_number) a.number true) (storable a.info)).0 h.0).1 in
     let p = ((and-eq-true_iff (conforms StoredTrustAnchorInfo a.info) (passes (judge a.info))).0 s).1 in
     (valid_rights a.info o.0 p, others_valid l o.1 h.1)
 
@@ -57,7 +58,7 @@ at_valid [] i h = record { keyed = tt; few = tt; entries = omega arith }
 at_valid (r ∷ l) zero h = h.0
 at_valid (r ∷ l) (suc i) h = at_valid l i h.1
 
-pub signer_valid : (image : List ℕ) (σ : Store) → Octets image → decode image ≡ some σ → (i : ℕ) → ValidRights (rights_at σ i)
+pub signer_valid : (image : List ℕ) (σ : Store) → Octets image → decode image ≡ Some σ → (i : ℕ) → ValidRights (rights_at σ i)
 unfolding encode all_of
 signer_valid image σ o d i =
     let stored = encode_section encode_anchor (anchors σ) in

@@ -1,9 +1,10 @@
 -- 01, Answers: "The next store .. is well-formed". One law for each step of an accepted message.
+use Rattle.std.specs.Option.{option_map_or}
+use Rattle.std.specs.Prelude.{Some, Ok}
 use Prim.Native.Nat.{ℕ, zero, suc, ◌≤◌, ◌<◌}
 use native.Mathlib.Omega.{arith}
 use mathlib.Core.Bool.{Bool, true, false, not, ◌&&◌, and-eq-true_iff, false≢true}
 use mathlib.Core.List.{List, [], ◌∷◌, ◌++◌, map, map-append, map-map, append_assoc, append-nil}
-use mathlib.Core.Option.{some, Option-elim}
 use mathlib.Core.Path.{◌≡◌, refl, sym, ◌∙◌, ap}
 use lib.ListN.{length, length-append, length-map}
 use lib.Dec.{leb, ltb, eqb}
@@ -28,14 +29,12 @@ use Rattle.store.proofs.Formats.{apart, community_ok, device_ok, sections, from_
 use Rattle.store.proofs.RoundTrip.{decode-encode, decode-well_formed}
 use Rattle.syntax.proofs.Each.{Every, every_all}
 use Rattle.message.specs.declared.Request.{Request}
-use Rattle.message.specs.declared.Received.TheVariants.{Asks}
 use Rattle.message.specs.declared.Entry.{Entry}
 use Rattle.message.specs.declared.Entry.TheVariants as entry
 use Rattle.message.specs.Fields.{entries_in, seq_numbers_in, additions_in}
 use Rattle.message.specs.Rows.{received}
 use Rattle.message.proofs.Entries.{Adding}
 use Rattle.message.proofs.Asked.{asked_number, asked_adds, asked_seq_numbers, asked_additions}
-use Rattle.protocol.specs.declared.Judgement.TheVariants.{Accepts}
 use Rattle.protocol.specs.Acceptance.{judgement, rights_at}
 use Rattle.protocol.specs.Update.{Step, unnumbered, added, has_key, removed, step, steps, numbered, with_seq_number, with_seq_numbers}
 use Rattle.protocol.specs.Community.{after_removals, after_additions, updated, community_status, communities_after}
@@ -93,8 +92,8 @@ valid_renumbered l l' e ok g =
     }
 
 numbered_ok : (n : ℕ) (a : Anchor) → n ≤ max_number → anchor_ok a ≡ true → anchor_ok (numbered n a) ≡ true
-unfolding anchor_ok Option-elim
-numbered_ok n a b ok = both (le-leb n max_number b) ((and-eq-true_iff (Option-elim a.number true (λ n. leb n max_number)) (storable a.info)).0 ok).1
+unfolding anchor_ok
+numbered_ok n a b ok = both (le-leb n max_number b) ((and-eq-true_iff (option_map_or (λ n. leb n max_number) a.number true) (storable a.info)).0 ok).1
 
 number_set-keys : (i n : ℕ) (l : List Anchor) → map public_key_of (number_set i n l) ≡ map public_key_of l
 unfolding number_set
@@ -181,7 +180,7 @@ valid_append l a ok apart room g =
     }
 
 unnumbered_ok : (t : List ℕ) → conforms StoredTrustAnchorInfo t ≡ true → passes (judge t) ≡ true → anchor_ok (unnumbered t) ≡ true
-unfolding anchor_ok Option-elim storable
+unfolding anchor_ok storable
 unnumbered_ok t c p = both c p
 
 -- an add of a TrustAnchorInfo that has the syntax of a stored one
@@ -311,27 +310,27 @@ module _ (s : List ℕ) (q : Request) (σ : Store) (w : Good σ) where
         of_communities = valid_communities _ _ _ σ.communities (every_all oid_ok _ oids) w.of_communities;
       }
 
-  valid_effect_of : (rights : Rights) → Octets s → received s ≡ Asks q → (kind : TampType) → q.kind ≡ kind → Good (effect_of kind s q rights σ).store
+  valid_effect_of : (rights : Rights) → Octets s → received s ≡ Ok q → (kind : TampType) → q.kind ≡ kind → Good (effect_of kind s q rights σ).store
   unfolding effect_of query_effect adjust_effect
   valid_effect_of rights o r StatusQuery k = w
   valid_effect_of rights o r Update k = valid_update rights (asked_adds s q r k) (asked_seq_numbers s q r k)
   valid_effect_of rights o r CommunityUpdate k = valid_community (asked_additions s q r k)
   valid_effect_of rights o r SeqNumAdjust k = w
 
-valid_effect : (s : List ℕ) (q : Request) (i : ℕ) (σ : Store) → Octets s → received s ≡ Asks q → Good σ → Good (effect s q i σ).store
+valid_effect : (s : List ℕ) (q : Request) (i : ℕ) (σ : Store) → Octets s → received s ≡ Ok q → Good σ → Good (effect s q i σ).store
 unfolding effect
 valid_effect s q i σ o r g =
     let n = q.number in
     valid_effect_of s q (with_number i n σ) (valid_with_number i n σ (asked_number s q r o) g) (rights_at σ i) o r q.kind refl
 
 -- what an accepted message leaves of a well-formed store is well-formed
-pub effect-well_formed : (σ : Store) (s verdict : List ℕ) (q : Request) (i : ℕ) → well_formed σ ≡ true → Octets s → judgement σ verdict s ≡ Accepts q i
+pub effect-well_formed : (σ : Store) (s verdict : List ℕ) (q : Request) (i : ℕ) → well_formed σ ≡ true → Octets s → judgement σ verdict s ≡ Ok (q, i)
     → well_formed (effect s q i σ).store ≡ true
 effect-well_formed σ s verdict q i w o j = store_valid _ (valid_effect s q i σ o (accepted_asks σ s verdict j) (valid_store σ w))
 
 -- "The next store is written whole .. and is well-formed"
 pub next_decodes : (s image verdict : List ℕ) (reply_lent next_lent : ℕ) (status : Status) (offset : ℕ) (reply next : List ℕ) → Octets s
-    → call s image verdict reply_lent next_lent ≡ answered status offset reply next → (σ : Store) × (decode next ≡ some σ)
+    → call s image verdict reply_lent next_lent ≡ answered status offset reply next → (σ : Store) × (decode next ≡ Some σ)
 next_decodes s image verdict reply_lent next_lent status offset reply next o e =
     let (σ, d) = answered_store s image verdict reply_lent next_lent e in
     by_answer s image verdict reply_lent next_lent σ d e

@@ -1,29 +1,22 @@
 -- 01, Answers: the rows 10, 16, 38, 23, 11 and 21, and acceptance. The rows after 16 are each a Fit, as envelope's specs/Rows says; 10 and 16 are the two ways
 -- in which the search for the signer (store's specs/Signer) finds none.
-use Rattle.std.specs.Prelude.{ℕ, Bool, not, List, get_or, leb, ltb}
-use Rattle.std.proofs.Math.Option.{Option, none, some}
+use Rattle.store.specs.declared.NoSigner.TheVariants.{Unverified, Unknown}
+use Rattle.store.specs.declared.NoSigner.{NoSigner}
+use Rattle.std.specs.Prelude.{ℕ, Bool, not, List, get_or, leb, ltb, Option, Some, None, Result, Ok, Err}
 use Rattle.octets.specs.declared.Status.{Status}
 use Rattle.octets.specs.Status.{success, no_trust_anchor, signature_failure, unsupported_target_identifier, incorrect_target, not_authorized, seq_num_failure}
 use Rattle.der.specs.declared.Element.{Element}
-use Rattle.der.specs.declared.Fit.{Fit}
-use Rattle.der.specs.declared.Fit.TheVariants.{Fits}
-use Rattle.der.specs.Fit.{applies_if, given_at}
+use Rattle.der.specs.Fit.{applies_if, given_at, Fit}
 use Rattle.der.specs.Element.{encoding, contents}
 use Rattle.syntax.specs.declared.TampType.{TampType}
 use Rattle.syntax.specs.declared.TampType.TheVariants.{StatusQuery, Update, CommunityUpdate, SeqNumAdjust}
 use Rattle.rights.specs.Rights.{Rights, Content, source, nothing, authorises}
-use Rattle.store.specs.declared.FoundSigner.{FoundSigner}
-use Rattle.store.specs.declared.FoundSigner.TheVariants as found
 use Rattle.store.specs.Store.{Store, anchors, identifiers, rights_in}
 use Rattle.store.specs.Signer.{signer}
 use Rattle.rights.specs.Attributes.{pairs}
 use Rattle.envelope.specs.declared.Refusal.{Refusal}
-use Rattle.envelope.specs.Given.{refusal_with}
+use Rattle.envelope.specs.Rows.{refusal_with}
 use Rattle.message.specs.declared.Request.{Request}
-use Rattle.message.specs.declared.Received.{Received}
-use Rattle.message.specs.declared.Received.TheVariants.{Asks, Refused}
-use Rattle.protocol.specs.declared.Judgement.{Judgement}
-use Rattle.protocol.specs.declared.Judgement.TheVariants.{Refuses, Accepts}
 use Rattle.message.specs.Rows.{received}
 use Rattle.protocol.specs.Target.{names_device, is_unsupported}
 
@@ -36,10 +29,10 @@ abbrev pub number_at : Store → ℕ → Option ℕ
 number_at σ i = (get_or (anchors σ) i σ.apex).number
 
 -- 10: no anchor has the key identifier; 16: none of those that have it has verdict 1
-unfoldable pub found_status : FoundSigner → Status
-found_status (found.At i) = success
-found_status found.Unverified = signature_failure
-found_status found.Unknown = no_trust_anchor
+unfoldable pub found_status : Result ℕ NoSigner → Status
+found_status (Ok i) = success
+found_status (Err Unverified) = signature_failure
+found_status (Err Unknown) = no_trust_anchor
 
 -- 38: target is uri or otherName
 abbrev pub row_38 : List ℕ → Request → Fit
@@ -68,34 +61,34 @@ too_low Update stored n = leb n stored
 too_low CommunityUpdate stored n = leb n stored
 
 unfoldable pub row_21 : Option ℕ → Request → Fit
-row_21 none q = Fits
-row_21 (some stored) q = applies_if (too_low q.kind stored q.number)
+row_21 None q = Ok tt
+row_21 (Some stored) q = applies_if (too_low q.kind stored q.number)
 
 -- a refusal of a request, with its msgRef
 abbrev pub refusal_of : Request → Status → ℕ → Refusal
 refusal_of q status offset = refusal_with status q.msgtype q.msgref offset
 
-abbrev pub refuse_request : Request → Status → ℕ → Judgement
-refuse_request q status offset = Refuses (refusal_of q status offset)
+abbrev pub refuse_request : Request → Status → ℕ → Result (Request × ℕ) Refusal
+refuse_request q status offset = Err (refusal_of q status offset)
 
 -- the rows after 16, by the anchor at position i
-unfoldable pub judged_at : Store → List ℕ → Request → ℕ → Judgement
+unfoldable pub judged_at : Store → List ℕ → Request → ℕ → Result (Request × ℕ) Refusal
 judged_at σ s q i =
     given_at (row_38 s q) (refuse_request q unsupported_target_identifier)
     (given_at (row_23 σ s q) (refuse_request q incorrect_target)
     (given_at (row_11 (rights_at σ i) s q) (refuse_request q not_authorized)
     (given_at (row_21 (number_at σ i) q) (refuse_request q seq_num_failure)
-    (Accepts q i))))
+    (Ok (q, i)))))
 
-unfoldable pub by_signer : Store → List ℕ → Request → FoundSigner → Judgement
-by_signer σ s q (found.At i) = judged_at σ s q i
-by_signer σ s q found.Unverified = refuse_request q (found_status found.Unverified) 0
-by_signer σ s q found.Unknown = refuse_request q (found_status found.Unknown) 0
+unfoldable pub by_signer : Store → List ℕ → Request → Result ℕ NoSigner → Result (Request × ℕ) Refusal
+by_signer σ s q (Ok i) = judged_at σ s q i
+by_signer σ s q (Err Unverified) = refuse_request q (found_status (Err Unverified)) 0
+by_signer σ s q (Err Unknown) = refuse_request q (found_status (Err Unknown)) 0
 
-unfoldable pub judgement_of : Store → List ℕ → List ℕ → Received → Judgement
-judgement_of σ verdict s (Refused r) = Refuses r
-judgement_of σ verdict s (Asks q) = by_signer σ s q (signer (identifiers σ) verdict (contents s q.signer))
+unfoldable pub judgement_of : Store → List ℕ → List ℕ → Result Request Refusal → Result (Request × ℕ) Refusal
+judgement_of σ verdict s (Err r) = Err r
+judgement_of σ verdict s (Ok q) = by_signer σ s q (signer (identifiers σ) verdict (contents s q.signer))
 
--- what all rows decide of a message: its refusal, or `Accepts`. Accepted is 01's term: "A message past 21 is accepted"
-unfoldable pub judgement : Store → List ℕ → List ℕ → Judgement
+-- what all rows decide of a message: its refusal, or the request and its signer's position. Accepted is 01's term: "A message past 21 is accepted"
+unfoldable pub judgement : Store → List ℕ → List ℕ → Result (Request × ℕ) Refusal
 judgement σ verdict s = judgement_of σ verdict s (received s)

@@ -1,7 +1,7 @@
 -- 01, Answers: the call. Each house refusal is a row that is a test, which applies where it is true (202 to 205; 201 is that `decode` gives nothing), and
 -- `given_if` gives the first that applies: these rows have neither offset nor reply. The rows of statuses are Fits (envelope's specs/Rows).
-use Rattle.std.specs.Prelude.{ℕ, Bool, true, false, not, ◌&&◌, ◌||◌, List, [], length, leb, ltb, eqb}
-use Rattle.std.proofs.Math.Option.{Option, none, some}
+use Rattle.message.specs.declared.Request.{Request}
+use Rattle.std.specs.Prelude.{ℕ, Bool, true, false, not, ◌&&◌, ◌||◌, List, [], length, leb, ltb, eqb, Option, Some, None, Result, Ok, Err}
 use Rattle.octets.specs.declared.Status.{Status}
 use Rattle.octets.specs.Status.{bad_image, bad_verdict, small_buffer, long_message, long_reply}
 use Rattle.octets.specs.Limits.{reply_room, image_room, max_message}
@@ -13,8 +13,6 @@ use Rattle.store.specs.Store.{Store, anchors}
 use Rattle.store.specs.Image.{encode, decode}
 use Rattle.envelope.specs.declared.Refusal.{Refusal}
 use Rattle.reply.specs.Replies.{tamp_error}
-use Rattle.protocol.specs.declared.Judgement.{Judgement}
-use Rattle.protocol.specs.declared.Judgement.TheVariants.{Refuses, Accepts}
 use Rattle.protocol.specs.Acceptance.{judgement}
 use Rattle.protocol.specs.Effect.{effect}
 
@@ -54,9 +52,9 @@ refusal_reply s r =
 
 -- "The next store is written whole (a copy where nothing changed)"; "These answers leave the store alone"; an accepted message writes its effect. 02, E3: a
 -- refusal has the offset that its row found; an accepted message has none
-unfoldable pub answer_of : List ℕ → List ℕ → Store → Judgement → Outcome
-answer_of s image σ (Refuses r) = answered r.status r.offset (refusal_reply s r) image
-answer_of s image σ (Accepts q i) = let e = effect s q i σ in answered e.status 0 e.reply (encode e.store)
+unfoldable pub answer_of : List ℕ → List ℕ → Store → Result (Request × ℕ) Refusal → Outcome
+answer_of s image σ (Err r) = answered r.status r.offset (refusal_reply s r) image
+answer_of s image σ (Ok (q, i)) = let e = effect s q i σ in answered e.status 0 e.reply (encode e.store)
 
 -- 205, else the answer
 unfoldable pub guarded : Outcome → Outcome
@@ -72,8 +70,8 @@ call_on σ s image verdict reply_lent next_lent =
 
 -- 201, where the image has no store
 unfoldable pub call_of : Option Store → List ℕ → List ℕ → List ℕ → ℕ → ℕ → Outcome
-call_of none s image verdict reply_lent next_lent = refused bad_image
-call_of (some σ) s image verdict reply_lent next_lent = call_on σ s image verdict reply_lent next_lent
+call_of None s image verdict reply_lent next_lent = refused bad_image
+call_of (Some σ) s image verdict reply_lent next_lent = call_on σ s image verdict reply_lent next_lent
 
 -- A call is given a message, a store image and a verdict, and the rooms of the two lent buffers; 201 comes first.
 unfoldable pub call : List ℕ → List ℕ → List ℕ → ℕ → ℕ → Outcome

@@ -1,8 +1,7 @@
 -- Demand 2, its last sentence: "An enrolment that passes the earlier checks is refused for its rights exactly when some content exists that the new anchor
 -- would authorise and the signer does not." Here it is an add that passes 34, and 17 for size; it is refused by 11; and the signer's rights are read from the
 -- store that the call was given. Over octets: message, image and reply as they come.
-use Rattle.std.specs.Prelude.{ℕ, ◌≤◌, ◌<◌, true, List, ◌↔◌, ◌≡◌, length, get_or}
-use Rattle.std.proofs.Math.Option.{some}
+use Rattle.std.specs.Prelude.{ℕ, ◌≤◌, ◌<◌, true, List, ◌↔◌, ◌≡◌, length, get_or, Some, Ok}
 use Rattle.octets.specs.declared.Status.{Status}
 use Rattle.octets.specs.Status.{success, not_authorized}
 use Rattle.octets.specs.Limits.{max_updates}
@@ -21,7 +20,6 @@ use Rattle.message.specs.declared.Entry.{Entry}
 use Rattle.message.specs.declared.Entry.TheVariants as entry
 use Rattle.message.specs.Fields.{entries_in}
 use Rattle.reply.specs.Replies.{update_confirm}
-use Rattle.protocol.specs.declared.Judgement.TheVariants.{Accepts}
 use Rattle.protocol.specs.Acceptance.{judgement, rights_at}
 use Rattle.protocol.specs.Call.{answered, call}
 
@@ -47,6 +45,6 @@ abbrev pub Demand2 : Type 0
 Demand2 =
     (message image verdict : List ℕ) (reply_lent next_lent : ℕ) (status : Status) (offset : ℕ) (reply next : List ℕ) →
     Octets message → Octets image → call message image verdict reply_lent next_lent ≡ answered status offset reply next →
-    (σ : Store) → decode image ≡ some σ → (q : Request) (i : ℕ) → judgement σ verdict message ≡ Accepts q i →
+    (σ : Store) → decode image ≡ Some σ → (q : Request) (i : ℕ) → judgement σ verdict message ≡ Ok (q, i) →
     q.kind ≡ Update → length (entries_of message q) ≤ max_updates →
     Confirms message q (rights_at σ i) reply

@@ -1,7 +1,8 @@
 -- Demand 3: over any list of calls, where no accepted message's signer authorised a content, the anchors that authorise it stay as they were, in the same
 -- order, and their records are equal to the last byte, sequence numbers included.
-use Rattle.std.specs.Prelude.{ℕ, false, List, [], ◌∷◌, ◌≡◌, drop}
-use Rattle.std.proofs.Math.Option.{Option, none, some}
+use Rattle.message.specs.declared.Request.{Request}
+use Rattle.envelope.specs.declared.Refusal.{Refusal}
+use Rattle.std.specs.Prelude.{ℕ, false, List, [], ◌∷◌, ◌≡◌, drop, Option, Some, None, Result, Ok, Err}
 use Rattle.octets.specs.Lists.{filter}
 use Rattle.octets.specs.Octets.{Octets}
 use Rattle.rights.specs.Rights.{Rights, Content, authorises}
@@ -9,8 +10,6 @@ use Rattle.anchor.specs.Info.{rights_of}
 use Rattle.store.specs.Store.{Store}
 use Rattle.store.specs.Image.{decode}
 use Rattle.store.specs.Records.{records_of}
-use Rattle.protocol.specs.declared.Judgement.{Judgement}
-use Rattle.protocol.specs.declared.Judgement.TheVariants.{Refuses, Accepts}
 use Rattle.protocol.specs.Acceptance.{judgement, rights_at}
 use Rattle.protocol.specs.Call.{Outcome, refused, answered, call}
 
@@ -37,14 +36,14 @@ after image (g ∷ gs) = after (store_after image (outcome image g)) gs
 
 -- "Accepted means past 21 in a call with no house refusal": what the signer of an accepted message may, in the store that its call was given; nothing where none is accepted.
 -- Both are read from what the call was given.
-unfoldable pub signer_of : Store → Judgement → Option Rights
-signer_of σ (Refuses r) = none
-signer_of σ (Accepts q i) = some (rights_at σ i)
+unfoldable pub signer_of : Store → Result (Request × ℕ) Refusal → Option Rights
+signer_of σ (Err r) = None
+signer_of σ (Ok (q, i)) = Some (rights_at σ i)
 
 unfoldable pub signer_in : Option Store → Inputs → Outcome → Option Rights
-signer_in none g o = none
-signer_in (some σ) g (refused number) = none
-signer_in (some σ) g (answered status offset reply next) = signer_of σ (judgement σ g.verdict g.message)
+signer_in None g o = None
+signer_in (Some σ) g (refused number) = None
+signer_in (Some σ) g (answered status offset reply next) = signer_of σ (judgement σ g.verdict g.message)
 
 abbrev pub accepted_signer : List ℕ → Inputs → Option Rights
 accepted_signer image g = signer_in (decode image) g (outcome image g)
@@ -53,7 +52,7 @@ accepted_signer image g = signer_in (decode image) g (outcome image g)
 abbrev pub Unauthorised : Content → List ℕ → List Inputs → Type 0
 Unauthorised content image [] = Unit {0}
 Unauthorised content image (g ∷ gs) =
-    ((rights : Rights) → accepted_signer image g ≡ some rights → authorises rights content ≡ false)
+    ((rights : Rights) → accepted_signer image g ≡ Some rights → authorises rights content ≡ false)
     × Unauthorised content (store_after image (outcome image g)) gs
 
 -- those of the anchors that authorise a content, in order: the apex, which authorises everything, and others by their TrustAnchorInfo ("what an anchor authorises is
@@ -65,6 +64,6 @@ authorising content (apex ∷ others) = apex ∷ filter (λ r. authorises (right
 -- "Then the anchors that authorise the content after the list are exactly those that authorised it at the start, in the same order, and their records are equal to the last byte, sequence numbers included."
 abbrev pub Demand3 : Type 0
 Demand3 =
-    (image : List ℕ) (σ : Store) → Octets image → decode image ≡ some σ →
+    (image : List ℕ) (σ : Store) → Octets image → decode image ≡ Some σ →
     (content : Content) (calls : List Inputs) → Unauthorised content image calls →
     authorising content (records_of (after image calls)) ≡ authorising content (records_of image)

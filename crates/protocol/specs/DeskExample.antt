@@ -1,7 +1,6 @@
 -- The desk's theorem (specs/Desk) is not empty. After the manager's call of specs/NotEmpty the apex 01, which alone may sign test rows (2A6402), has its rows permitted, those of manager and sampler
 -- are not. The sampler's training rows, of which the theorem says nothing, are.
-use Rattle.std.specs.Prelude.{ℕ, List, [], ◌∷◌, ◌≡◌}
-use Rattle.std.proofs.Math.Option.{none, some}
+use Rattle.std.specs.Prelude.{ℕ, List, [], ◌∷◌, ◌≡◌, Some, None}
 use Rattle.octets.specs.Status.{no_trust_anchor, not_authorized}
 use Rattle.octets.specs.Octets.{Octets}
 use Rattle.rights.specs.Rights.{Content, source}
@@ -19,7 +18,7 @@ test_rows = record { type = rows_type 0x02; role = source; attributes = [] }
 
 -- the store of the image
 abbrev pub store : Store
-store = managed none []
+store = managed None []
 
 -- the image after the enrolment
 abbrev pub later : Octets message → List ℕ
@@ -29,9 +28,9 @@ later octets = after image (enrolment octets ∷ [])
 abbrev pub DeskExample : Type 0
 DeskExample =
     Octets image
-    × (decode image ≡ some store)
+    × (decode image ≡ Some store)
     × ((octets : Octets message)
-    × (accepted_signer image (enrolment octets) ≡ some manager)
+    × (accepted_signer image (enrolment octets) ≡ Some manager)
     × Unauthorised test_rows image (enrolment octets ∷ [])
     × ApexAlone store test_rows
     × EachAccepted (λ given i. i ≡ 0 → ⊥) image (enrolment octets ∷ [])

@@ -1,7 +1,6 @@
 -- Demand 3 supposes that no accepted message's signer authorised the content. Where one did, the anchors that authorise it do change: here the manager 12, who authorises training rows (the type
 -- 2A6401) and Updates, enrols the sampler 13 with training rows.
-use Rattle.std.specs.Prelude.{ℕ, true, List, [], ◌∷◌, ◌≡◌}
-use Rattle.std.proofs.Math.Option.{Option, none, some}
+use Rattle.std.specs.Prelude.{ℕ, true, List, [], ◌∷◌, ◌≡◌, Option, Some, None}
 use Rattle.octets.specs.Limits.{reply_room, image_room}
 use Rattle.octets.specs.Octets.{Octets}
 use Rattle.syntax.specs.declared.TampType.TheVariants.{Update}
@@ -18,13 +17,13 @@ abbrev pub managed : Option ℕ → List Anchor → Store
 managed number others =
     record {
       device = record { hw_type = 0x2A ∷ 0x03 ∷ []; serial = 0x07 ∷ [] };
-      apex = record { number = some 5; info = trust_anchor_info 0xA0 0x01 [] };
+      apex = record { number = Some 5; info = trust_anchor_info 0xA0 0x01 [] };
       others = record { number = number; info = trust_anchor_info 0xB1 0x12 (content_constraints (rows_type 0x01 ∷ type_oid Update ∷ [])) } ∷ others;
       communities = [];
     }
 
 unfoldable pub image : List ℕ
-image = encode (managed none [])
+image = encode (managed None [])
 
 -- the sampler 13, with rows of a type
 abbrev pub sampler : ℕ → List ℕ
@@ -51,6 +50,6 @@ abbrev pub NotEmpty : Type 0
 NotEmpty =
     Octets image
     × ((octets : Octets message)
-    × (accepted_signer image (enrolment octets) ≡ some manager)
+    × (accepted_signer image (enrolment octets) ≡ Some manager)
     × (authorises manager content ≡ true)
     × (authorising content (records_of (after image (enrolment octets ∷ []))) ≡ authorising content (records_of image) → ⊥))

@@ -3,10 +3,3 @@
 
 use envelope::Refusal;
 use message::Request;
-
-// What the rows decide of a message: a refusal, or acceptance (01's term: past 21) of a request by the anchor at a position.
-#[derive(Clone, Copy)]
-pub enum Judgement {
-    Refuses(Refusal),
-    Accepts(Request, usize),
-}

@@ -8,6 +8,7 @@ use std::io;
 use std::io::Read;
 
 // Reads until the buffer is full or the input ends. Gives how many octets came.
+// A loop: `read_exact` does not say how many came where the input ends early, and `read_to_end` wants a Vec.
 pub fn read_full<R: Read>(input: &mut R, buffer: &mut [u8]) -> io::Result<usize>
     ensures within { IfOk result (λ n. n ≤ length buffer.new) }
     ensures octets { IfOk result (λ n.
@@ -26,6 +27,7 @@ pub fn read_full<R: Read>(input: &mut R, buffer: &mut [u8]) -> io::Result<usize>
 }
 
 // Reads n octets into the buffer. Whether there is room for them and the input has them: where there is no room, nothing is read.
+// (A bool and no part of the buffer as an Option, which is no plainer: its clauses say of the whole buffer what stands there, also where the answer is no.)
 pub fn fill<R: Read>(input: &mut R, buffer: &mut [u8], n: usize) -> io::Result<bool>
     ensures room { IfOk result (λ whole. whole ≡ true → n ≤ length buffer.old) }
     ensures octets { IfOk result (λ whole. whole ≡ true →
@@ -34,6 +36,7 @@ pub fn fill<R: Read>(input: &mut R, buffer: &mut [u8], n: usize) -> io::Result<b
         IsAtEnd (R.remaining input.new)) }
     ensures kept { length buffer.old < n → input.new ≡ input.old }
 {
+    // not `get_mut(..n)`: after it a proof knows the buffer's length alone, and `octets` speaks of what it holds
     if buffer.len() < n {
         return Ok(false);
     }

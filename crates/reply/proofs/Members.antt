@@ -1,5 +1,5 @@
 -- The lists of an image: what a walk over their members finds at each turn, the lists themselves, and how much there is.
-use Prim.Native.Nat.{ℕ, zero, suc, ◌+◌, ◌-◌, ◌*◌, ◌≤◌, ◌<◌}
+use Prim.Native.Nat.{ℕ, zero, suc, ◌+◌, ◌-◌, ◌*◌, ◌≤◌}
 use native.Mathlib.Nat.{suc-mul, mul-le-mul_right}
 use native.Mathlib.Omega.{arith}
 use mathlib.Core.List.{List, [], ◌∷◌, ◌++◌, map, flat_map}
@@ -52,34 +52,24 @@ turn Communities s n p = names_turn s n p
 
 module _ (by : Listed) (s : List ℕ) where
   -- x is the member at place p, and e its end
-  pub members_turn : (p left : ℕ) {x : List ℕ} {e : ℕ} → 0 < left → x ≡ member_at by s p → e ≡ member_end by s p
-      → members_from by left (drop p s) ≡ element (tag_of by) x ++ members_from by (left - 1) (drop e s)
+  pub members_turn : (p left next : ℕ) {tag : ℕ} {x : List ℕ} {e : ℕ} → left ≡ suc next → tag ≡ tag_of by → x ≡ member_at by s p → e ≡ member_end by s p
+      → members_from by left (drop p s) ≡ element tag x ++ members_from by next (drop e s)
   unfolding members_from flat_map
-  members_turn p left h u v =
-      let n : left ≡ suc (left - 1) = omega arith in
+  members_turn p left next n w u v =
       ap (λ (k : ℕ). members_from by k (drop p s)) n
-      ∙ ap (flat_map (element (tag_of by))) (turn by s (left - 1) p)
-      ∙ ap₂ (λ (y : List ℕ) (k : ℕ). element (tag_of by) y ++ members_from by (left - 1) (drop k s)) (sym u) (sym v)
+      ∙ ap (flat_map (element (tag_of by))) (turn by s next p)
+      ∙ rw (w, u, v) refl
 
-  -- .. by its header
-  pub members_header : (p left : ℕ) {tag : ℕ} {x : List ℕ} {e : ℕ} → 0 < left → tag ≡ tag_of by → x ≡ member_at by s p → e ≡ member_end by s p
-      → members_from by left (drop p s) ≡ (header tag (length x) ++ x) ++ members_from by (left - 1) (drop e s)
-  members_header p left {tag} {x} {e} h w u v =
-      members_turn p left h u v
-      ∙ ap (λ (y : List ℕ). y ++ members_from by (left - 1) (drop e s)) (element_is (tag_of by) x refl ∙ ap (λ (k : ℕ). header k (length x) ++ x) (sym w))
-
-  pub members_end : (p left : ℕ) → left ≤ 0 → members_from by left (drop p s) ≡ []
+  pub members_end : (p left : ℕ) → left ≡ 0 → members_from by left (drop p s) ≡ []
   unfolding members_from flat_map
-  members_end p left h =
-      let n : left ≡ 0 = omega arith in
-      ap (λ (k : ℕ). members_from by k (drop p s)) n ∙ ap (flat_map (element (tag_of by))) (none by (drop p s))
+  members_end p left n = ap (λ (k : ℕ). members_from by k (drop p s)) n ∙ ap (flat_map (element (tag_of by))) (none by (drop p s))
 
-  pub members_size : (p left : ℕ) {x : List ℕ} {e : ℕ} → 0 < left → x ≡ member_at by s p → e ≡ member_end by s p
-      → length (members_from by left (drop p s)) ≡ element_size (length x) + length (members_from by (left - 1) (drop e s))
-  members_size p left {x} {e} h u v =
-      ap length (members_turn p left h u v)
-      ∙ length-append (element (tag_of by) x) (members_from by (left - 1) (drop e s))
-      ∙ ap (λ (k : ℕ). k + length (members_from by (left - 1) (drop e s))) (length-element (tag_of by) x)
+  pub members_size : (p left next : ℕ) {x : List ℕ} {e : ℕ} → left ≡ suc next → x ≡ member_at by s p → e ≡ member_end by s p
+      → length (members_from by left (drop p s)) ≡ element_size (length x) + length (members_from by next (drop e s))
+  members_size p left next {x} {e} n u v =
+      ap length (members_turn p left next n refl u v)
+      ∙ length-append (element (tag_of by) x) (members_from by next (drop e s))
+      ∙ ap (λ (k : ℕ). k + length (members_from by next (drop e s))) (length-element (tag_of by) x)
 
 -- the octets from a place on
 pub slice-rest : (s : List ℕ) (p : ℕ) → slice s p (length s) ≡ drop p s
@@ -113,12 +103,11 @@ few Communities image o = omega (arith, o (community_place image))
 
 module _ (by : Listed) where
   members_bound : (s : List ℕ) (n p : ℕ) → length (members_from by n (drop p s)) ≤ n * (length s + 10)
-  members_bound s zero p = omega (arith, ap length (members_end by s p 0 (omega arith)))
+  members_bound s zero p = omega (arith, ap length (members_end by s p 0 refl))
   members_bound s (suc n) p =
-      let z : suc n - 1 ≡ n = omega arith in
-      let l = members_size by s p (suc n) {x = member_at by s p} {e = member_end by s p} (omega arith) refl refl in
+      let l = members_size by s p (suc n) n {x = member_at by s p} {e = member_end by s p} refl refl refl in
       let b = members_bound s n (member_end by s p) in
-      omega (arith, rw z at l, b, member_short by s p, length_octets_lem (length (member_at by s p)), suc-mul n (length s + 10))
+      omega (arith, l, b, member_short by s p, length_octets_lem (length (member_at by s p)), suc-mul n (length s + 10))
 
   -- a list: nothing where there are no members, else their element
   module _ (image : List ℕ) {n : ℕ} (u : n ≡ count_in by image) where

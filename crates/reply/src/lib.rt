@@ -7,7 +7,7 @@ ghost use Rattle.octets.specs.declared.Status.{Status};
 ghost use Rattle.octets.specs.Limits.{max_message};
 ghost use Rattle.der.specs.Write.{element};
 ghost use Rattle.reply.specs.Replies.{tamp_error, update_confirm, community_confirm, adjust_confirm};
-ghost use Rattle.reply.specs.Contract.Parts.{status_numbered, reply_size, part_of, wrote, five_parts, behind_header, reply_parts, terse_size, response_of};
+ghost use Rattle.reply.specs.Contract.Parts.{status_numbered, reply_size, part_octets, wrote, octets_of, terse_size, response_of};
 
 use octets::Status;
 
@@ -27,95 +27,39 @@ pub enum Listed {
     Communities,
 }
 
-// A part of a reply, of octets that are given with it.
+// A part of a reply.
 #[derive(Clone, Copy)]
-pub enum Part {
-    // the octets themselves
-    Octets,
-    // the header of an element by its tag and the size of its contents, and the octets with which they begin
+pub enum Part<'b> {
+    // octets
+    Octets(&'b [u8]),
+    // the header of an element by its tag and the size of its contents
     Header(u8, usize),
     // a status code for each of the octets
-    Codes,
+    Codes(&'b [u8]),
     // a list of the image that the octets are
-    List(Listed),
+    List(Listed, &'b [u8]),
 }
 
 impl<'a> Writer<'a> {
-    fn append(&mut self, part: Part, s: &[u8])
-        requires { self.old.at + length (part_of part s.now) ≤ length self.old.buf.now }
+    fn append(&mut self, part: Part)
+        requires { self.old.at + length (part_octets part) ≤ length self.old.buf.now }
         ensures same_reference { self.new.buf.ghost_name ≡ self.old.buf.ghost_name }
-        ensures written { self.new ≡ wrote self.old (part_of part s.now) }
+        ensures written { self.new ≡ wrote self.old (part_octets part.entry) }
     {
-        self.at = parts::put_part(&mut *self.buf, self.at, part, s);
+        self.at = parts::put_part(&mut *self.buf, self.at, part);
     }
 }
 
-// Five parts, one after the other.
-fn put_parts<'a, 'b>(
-    buf: &'a mut [u8],
-    a: Part,
-    s: &'b [u8],
-    b: Part,
-    t: &'b [u8],
-    c: Part,
-    u: &'b [u8],
-    d: Part,
-    v: &'b [u8],
-    e: Part,
-    x: &'b [u8],
-) -> usize
-    requires { length (five_parts a s.now b t.now c u.now d v.now e x.now) ≤ length buf.old }
-    ensures { (result ≡ length (five_parts a s.now b t.now c u.now d v.now e x.now))
-        × (buf.new
-        ≡ placed buf.old 0 (five_parts a s.now b t.now c u.now d v.now e x.now)) }
+// The parts of a reply, one after the other.
+fn put_parts(buf: &mut [u8], parts: &[Part]) -> usize
+    requires { length (octets_of parts.now) ≤ length buf.old }
+    ensures { (result ≡ length (octets_of parts.now)) × (buf.new ≡ placed buf.old 0 (octets_of parts.now)) }
 {
     let mut w = Writer { buf: buf, at: 0 };
-    w.append(a, s);
-    w.append(b, t);
-    w.append(c, u);
-    w.append(d, v);
-    w.append(e, x);
+    for part in parts {
+        w.append(*part);
+    }
     w.at
-}
-
-// A reply: what stands first in it, and the header of an element of m octets, with `first` and three parts after it, of which `after` octets stand after that element.
-fn put_reply<'a, 'b>(
-    buf: &'a mut [u8],
-    lead: &'b [u8],
-    tag: u8,
-    m: usize,
-    after: usize,
-    first: &'b [u8],
-    a: Part,
-    s: &'b [u8],
-    b: Part,
-    t: &'b [u8],
-    c: Part,
-    u: &'b [u8],
-) -> usize
-    requires { (m + after ≡ length (behind_header first.now a s.now b t.now c u.now))
-        × (length (reply_parts lead.now tag m (behind_header first.now a s.now b t.now c u.now)) ≤ length buf.old) }
-    ensures { (result ≡ length (reply_parts lead.now tag m (behind_header first.now a s.now b t.now c u.now)))
-        × (buf.new
-        ≡ placed
-        buf.old
-        0
-        (reply_parts lead.now tag m (behind_header first.now a s.now b t.now c u.now))) }
-{
-    let n = lead.len() + parts::element_size(m) + after;
-    put_parts(
-        buf,
-        Part::Header(der::SEQUENCE, n),
-        lead,
-        Part::Header(tag, m),
-        first,
-        a,
-        s,
-        b,
-        t,
-        c,
-        u,
-    )
 }
 
 // How many octets a reply takes, before anything is written. What they are made of are parts of a message, of at most 8,192 octets.
@@ -169,79 +113,53 @@ pub fn response_size(msgref: &[u8], image: &[u8]) -> usize
 // The replies of 01.
 
 // TAMPError
-pub fn put_error<'a, 'b>(
-    buf: &'a mut [u8],
-    msgtype: &'b [u8],
-    status: Status,
-    msgref: &'b [u8],
-) -> usize
+pub fn put_error<'b>(buf: &mut [u8], msgtype: &'b [u8], status: Status, msgref: &'b [u8]) -> usize
     requires { length (tamp_error msgtype.now status msgref.now) ≤ length buf.old }
     ensures { (result ≡ length (tamp_error msgtype.now status msgref.now))
         × (buf.new ≡ placed buf.old 0 (tamp_error msgtype.now status msgref.now)) }
 {
-    let none = &msgref[..0];
     let code = [status.number];
-    put_reply(
-        buf,
-        none,
-        der::OBJECT_IDENTIFIER,
-        msgtype.len(),
-        3 + msgref.len(),
-        msgtype,
-        Part::Codes,
-        &code,
-        Part::Octets,
-        msgref,
-        Part::Octets,
-        none,
-    )
+    let n = parts::element_size(msgtype.len()) + 3 + msgref.len();
+    let parts = [
+        Part::Header(der::SEQUENCE, n),
+        Part::Header(der::OBJECT_IDENTIFIER, msgtype.len()),
+        Part::Octets(msgtype),
+        Part::Codes(&code),
+        Part::Octets(msgref),
+    ];
+    put_parts(buf, &parts)
 }
 
 // TAMPUpdateConfirm, of the entries' statuses as octets
-pub fn put_update_confirm<'a, 'b>(buf: &'a mut [u8], msgref: &'b [u8], codes: &'b [u8]) -> usize
+pub fn put_update_confirm<'b>(buf: &mut [u8], msgref: &'b [u8], codes: &'b [u8]) -> usize
     requires { length (update_confirm msgref.now (map status_numbered codes.now)) ≤ length buf.old }
     ensures { (result ≡ length (update_confirm msgref.now (map status_numbered codes.now)))
         × (buf.new ≡ placed buf.old 0 (update_confirm msgref.now (map status_numbered codes.now))) }
 {
-    let none = &msgref[..0];
-    put_reply(
-        buf,
-        msgref,
-        der::CONSTRUCTED_0,
-        3 * codes.len(),
-        0,
-        none,
-        Part::Codes,
-        codes,
-        Part::Octets,
-        none,
-        Part::Octets,
-        none,
-    )
+    let m = 3 * codes.len();
+    let parts = [
+        Part::Header(der::SEQUENCE, msgref.len() + parts::element_size(m)),
+        Part::Octets(msgref),
+        Part::Header(der::CONSTRUCTED_0, m),
+        Part::Codes(codes),
+    ];
+    put_parts(buf, &parts)
 }
 
 // A confirm with one status, by the tag that it has.
-fn put_code_confirm<'a, 'b>(buf: &'a mut [u8], msgref: &'b [u8], tag: u8, code: u8) -> usize
-    requires { length (element 0x30 (msgref.now ++ element tag (code ∷ []))) ≤ length buf.old }
-    ensures { (result ≡ length (element 0x30 (msgref.now ++ element tag (code ∷ []))))
-        × (buf.new ≡ placed buf.old 0 (element 0x30 (msgref.now ++ element tag (code ∷ [])))) }
+fn put_code_confirm(buf: &mut [u8], msgref: &[u8], tag: u8, status: Status) -> usize
+    requires { length (element 0x30 (msgref.now ++ element tag (status.number ∷ []))) ≤ length buf.old }
+    ensures { (result ≡ length (element 0x30 (msgref.now ++ element tag (status.number ∷ []))))
+        × (buf.new ≡ placed buf.old 0 (element 0x30 (msgref.now ++ element tag (status.number ∷ [])))) }
 {
-    let none = &msgref[..0];
-    let contents = [code];
-    put_reply(
-        buf,
-        msgref,
-        tag,
-        1,
-        0,
-        &contents,
-        Part::Octets,
-        none,
-        Part::Octets,
-        none,
-        Part::Octets,
-        none,
-    )
+    let contents = [status.number];
+    let parts = [
+        Part::Header(der::SEQUENCE, msgref.len() + parts::element_size(1)),
+        Part::Octets(msgref),
+        Part::Header(tag, 1),
+        Part::Octets(&contents),
+    ];
+    put_parts(buf, &parts)
 }
 
 // TAMPCommunityUpdateConfirm
@@ -250,7 +168,7 @@ pub fn put_community_confirm(buf: &mut [u8], msgref: &[u8], status: Status) -> u
     ensures { (result ≡ length (community_confirm msgref.now status))
         × (buf.new ≡ placed buf.old 0 (community_confirm msgref.now status)) }
 {
-    put_code_confirm(buf, msgref, der::CONTEXT_0, status.number)
+    put_code_confirm(buf, msgref, der::CONTEXT_0, status)
 }
 
 // SequenceNumberAdjustConfirm
@@ -259,28 +177,22 @@ pub fn put_adjust_confirm(buf: &mut [u8], msgref: &[u8]) -> usize
     ensures { (result ≡ length (adjust_confirm msgref.now))
         × (buf.new ≡ placed buf.old 0 (adjust_confirm msgref.now)) }
 {
-    put_code_confirm(buf, msgref, der::ENUMERATED, 0)
+    put_code_confirm(buf, msgref, der::ENUMERATED, Status::SUCCESS)
 }
 
 // TAMPStatusResponse, of the store with this image
-pub fn put_status_response<'a, 'b>(buf: &'a mut [u8], msgref: &'b [u8], image: &'b [u8]) -> usize
+pub fn put_status_response<'b>(buf: &mut [u8], msgref: &'b [u8], image: &'b [u8]) -> usize
     requires { (length image.now < 2 ^ 32) × (length (response_of msgref.now image.now) ≤ length buf.old) }
     ensures { (result ≡ length (response_of msgref.now image.now))
         × (buf.new ≡ placed buf.old 0 (response_of msgref.now image.now)) }
 {
-    let none = &msgref[..0];
-    put_reply(
-        buf,
-        msgref,
-        der::CONSTRUCTED_0,
-        terse_size(image),
-        0,
-        none,
-        Part::List(Listed::Identifiers),
-        image,
-        Part::List(Listed::Communities),
-        image,
-        Part::Octets,
-        none,
-    )
+    let m = terse_size(image);
+    let parts = [
+        Part::Header(der::SEQUENCE, msgref.len() + parts::element_size(m)),
+        Part::Octets(msgref),
+        Part::Header(der::CONSTRUCTED_0, m),
+        Part::List(Listed::Identifiers, image),
+        Part::List(Listed::Communities, image),
+    ];
+    put_parts(buf, &parts)
 }

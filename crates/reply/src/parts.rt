@@ -1,9 +1,10 @@
 // The parts of a reply: each is written at a place, and the place after it is given.
+// Buffer and place are two parameters here: 01 asks for "thin append calls over covered functions", and these are the covered ones under `Writer::append`.
 ghost use Rattle.std.specs.Prelude.{◌≡◌, ◌++◌, ◌+◌, ◌^◌, ◌≤◌, ◌<◌, length};
 ghost use Rattle.octets.specs.Octets.{placed};
-ghost use Rattle.der.specs.Write.{header};
+ghost use Rattle.der.specs.Write.{element};
 ghost use Rattle.reply.specs.Replies.{list_of};
-ghost use Rattle.reply.specs.Contract.Parts.{status_codes, element_size, tag_of, rows_in, count_in, member_at, member_end, members_from, listed, part_of};
+ghost use Rattle.reply.specs.Contract.Parts.{status_codes, element_size, tag_of, rows_in, count_in, member_at, member_end, members_from, listed, part_octets};
 
 use super::{Listed, Part};
 
@@ -15,26 +16,14 @@ fn put_octets(buf: &mut [u8], at: usize, s: &[u8]) -> usize
     at + s.len()
 }
 
-// A header for n octets of contents, and the octets with which they begin.
-fn put_header(buf: &mut [u8], at: usize, tag: u8, n: usize, s: &[u8]) -> usize
-    requires { at + length (header tag n ++ s.now) ≤ length buf.old }
-    ensures { (result ≡ at + length (header tag n ++ s.now)) × (buf.new ≡ placed buf.old at (header tag n ++ s.now)) }
-{
-    let p = der::put_header(buf, at, tag, n);
-    put_octets(buf, p, s)
-}
-
 // StatusCodeList: 0A 01 and the code, for each.
 fn put_codes(buf: &mut [u8], at: usize, codes: &[u8]) -> usize
     requires { at + length (status_codes codes.now) ≤ length buf.old }
     ensures { (result ≡ at + length (status_codes codes.now)) × (buf.new ≡ placed buf.old at (status_codes codes.now)) }
 {
     let mut p = at;
-    let mut i = 0;
-    while i < codes.len() {
-        let code = [der::ENUMERATED, 1, codes[i]];
-        p = put_octets(buf, p, &code);
-        i += 1;
+    for code in codes {
+        p = put_octets(buf, p, &[der::ENUMERATED, 1, *code]);
     }
     p
 }
@@ -47,65 +36,78 @@ pub fn element_size(n: usize) -> usize
     der::header_size(n) + n
 }
 
-// The lists of an image: the octets in which a list's members stand, how many there are, their tag; the member at a place of those octets, and where it ends.
+// The lists of an image. (Each a `match` of two arms, and no trait with two types, which is no plainer: contracts and parts name the list by its variant.)
+impl Listed {
+    // The octets in which the list's members stand.
+    fn rows(self, image: &[u8]) -> &[u8]
+        ensures { result.now ≡ rows_in self image.now }
+    {
+        match self {
+            Listed::Identifiers => octets::slice(image, store::first_record(image), image.len()),
+            Listed::Communities => store::community_octets(image),
+        }
+    }
 
-fn rows(by: Listed, image: &[u8]) -> &[u8]
-    ensures { result.now ≡ rows_in by image.now }
-{
-    match by {
-        Listed::Identifiers => octets::slice(image, store::first_record(image), image.len()),
-        Listed::Communities => store::community_octets(image),
+    // How many there are.
+    fn count(self, image: &[u8]) -> usize
+        ensures { result ≡ count_in self image.now }
+    {
+        match self {
+            Listed::Identifiers => store::anchor_count(image),
+            Listed::Communities => store::community_count(image),
+        }
+    }
+
+    // Their tag.
+    fn tag(self) -> u8
+        ensures { result ≡ tag_of self }
+    {
+        match self {
+            Listed::Identifiers => der::OCTET_STRING,
+            Listed::Communities => der::OBJECT_IDENTIFIER,
+        }
+    }
+
+    // The member at a place of those octets.
+    fn member(self, rows: &[u8], p: usize) -> &[u8]
+        ensures { result.now ≡ member_at self rows.now p }
+    {
+        match self {
+            Listed::Identifiers => store::identifier_of(store::record_at(rows, p)),
+            Listed::Communities => store::name_at(rows, p),
+        }
+    }
+
+    // Where it ends.
+    fn member_end(self, rows: &[u8], p: usize) -> usize
+        ensures { result ≡ member_end self rows.now p }
+    {
+        match self {
+            Listed::Identifiers => store::record_end(rows, p),
+            Listed::Communities => store::name_end(rows, p),
+        }
     }
 }
 
-fn count(by: Listed, image: &[u8]) -> usize
-    ensures { result ≡ count_in by image.now }
+// An element with these contents.
+fn put_element(buf: &mut [u8], at: usize, tag: u8, contents: &[u8]) -> usize
+    requires { at + length (element tag contents.now) ≤ length buf.old }
+    ensures { (result ≡ at + length (element tag contents.now)) × (buf.new ≡ placed buf.old at (element tag contents.now)) }
 {
-    match by {
-        Listed::Identifiers => store::anchor_count(image),
-        Listed::Communities => store::community_count(image),
-    }
+    let p = der::put_header(buf, at, tag, contents.len());
+    put_octets(buf, p, contents)
 }
 
-fn tag(by: Listed) -> u8
-    ensures { result ≡ tag_of by }
-{
-    match by {
-        Listed::Identifiers => der::OCTET_STRING,
-        Listed::Communities => der::OBJECT_IDENTIFIER,
-    }
-}
-
-fn member(by: Listed, rows: &[u8], p: usize) -> &[u8]
-    ensures { result.now ≡ member_at by rows.now p }
-{
-    match by {
-        Listed::Identifiers => store::identifier_of(store::record_at(rows, p)),
-        Listed::Communities => store::name_at(rows, p),
-    }
-}
-
-fn member_end(by: Listed, rows: &[u8], p: usize) -> usize
-    ensures { result ≡ member_end by rows.now p }
-{
-    match by {
-        Listed::Identifiers => store::record_end(rows, p),
-        Listed::Communities => store::name_end(rows, p),
-    }
-}
-
-// The octets that the first n members take.
+// The octets that the first n members take. (By their places, here and below: over store's Records and Names the one loop would be two, and so no plainer.)
 fn members_size(by: Listed, rows: &[u8], n: usize) -> usize
     requires { length (members_from by n rows.now) < 2 ^ 63 }
     ensures { result ≡ length (members_from by n rows.now) }
 {
     let mut size = 0;
     let mut p = 0;
-    let mut left = n;
-    while 0 < left {
-        size += element_size(member(by, rows, p).len());
-        p = member_end(by, rows, p);
-        left -= 1;
+    for _ in 0..n {
+        size += element_size(by.member(rows, p).len());
+        p = by.member_end(rows, p);
     }
     size
 }
@@ -116,15 +118,12 @@ fn put_members(buf: &mut [u8], at: usize, by: Listed, rows: &[u8], n: usize) -> 
     ensures { (result ≡ at + length (members_from by n rows.now))
         × (buf.new ≡ placed buf.old at (members_from by n rows.now)) }
 {
-    let tag = tag(by);
+    let tag = by.tag();
     let mut to = at;
     let mut p = 0;
-    let mut left = n;
-    while 0 < left {
-        let contents = member(by, rows, p);
-        to = put_header(buf, to, tag, contents.len(), contents);
-        p = member_end(by, rows, p);
-        left -= 1;
+    for _ in 0..n {
+        to = put_element(buf, to, tag, by.member(rows, p));
+        p = by.member_end(rows, p);
     }
     to
 }
@@ -134,11 +133,11 @@ pub fn list_size(by: Listed, image: &[u8]) -> usize
     requires { length (list_of (tag_of by) (listed by image.now)) < 2 ^ 63 }
     ensures { result ≡ length (list_of (tag_of by) (listed by image.now)) }
 {
-    let n = count(by, image);
+    let n = by.count(image);
     if n == 0 {
         return 0;
     }
-    element_size(members_size(by, rows(by, image), n))
+    element_size(members_size(by, by.rows(image), n))
 }
 
 fn put_list(buf: &mut [u8], at: usize, by: Listed, image: &[u8]) -> usize
@@ -146,23 +145,23 @@ fn put_list(buf: &mut [u8], at: usize, by: Listed, image: &[u8]) -> usize
     ensures { (result ≡ at + length (list_of (tag_of by) (listed by image.now)))
         × (buf.new ≡ placed buf.old at (list_of (tag_of by) (listed by image.now))) }
 {
-    let n = count(by, image);
+    let n = by.count(image);
     if n == 0 {
         return at;
     }
-    let rows = rows(by, image);
+    let rows = by.rows(image);
     let p = der::put_header(buf, at, der::SEQUENCE, members_size(by, rows, n));
     put_members(buf, p, by, rows, n)
 }
 
-pub fn put_part(buf: &mut [u8], at: usize, part: Part, s: &[u8]) -> usize
-    requires { at + length (part_of part s.now) ≤ length buf.old }
-    ensures { (result ≡ at + length (part_of part s.now)) × (buf.new ≡ placed buf.old at (part_of part s.now)) }
+pub fn put_part(buf: &mut [u8], at: usize, part: Part) -> usize
+    requires { at + length (part_octets part) ≤ length buf.old }
+    ensures { (result ≡ at + length (part_octets part.entry)) × (buf.new ≡ placed buf.old at (part_octets part.entry)) }
 {
     match part {
-        Part::Octets => put_octets(buf, at, s),
-        Part::Header(tag, n) => put_header(buf, at, tag, n, s),
-        Part::Codes => put_codes(buf, at, s),
-        Part::List(by) => put_list(buf, at, by, s),
+        Part::Octets(s) => put_octets(buf, at, s),
+        Part::Header(tag, n) => der::put_header(buf, at, tag, n),
+        Part::Codes(codes) => put_codes(buf, at, codes),
+        Part::List(by, image) => put_list(buf, at, by, image),
     }
 }

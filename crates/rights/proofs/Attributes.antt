@@ -1,4 +1,5 @@
 -- Status 11: which signed attributes are weighed, what each asks of the governing entry, and what the anchor authorises.
+use Rattle.std.specs.Prelude.{Option, Some, None, MatchOption, option_map}
 use Prim.Native.Nat.{ℕ}
 use mathlib.Core.Bool.{Bool, true, false, not, ◌&&◌}
 use mathlib.Core.List.{List, [], ◌∷◌, map}
@@ -9,16 +10,14 @@ use Rattle.octets.specs.Octets.{same, member}
 use Rattle.octets.specs.Number.{digits}
 use Rattle.octets.proofs.Lists.{by_test, keep_in, keep_out}
 use Rattle.der.specs.declared.Element.{Element}
-use Rattle.der.specs.Element.{element_at, encoding, inside, field}
+use Rattle.der.specs.Element.{encoding, inside}
 use Rattle.der.specs.Keys.{type_of}
 use Rattle.der.specs.Oid.{arc, arcs, oid}
 use Rattle.syntax.specs.Types.{id_content_type, id_message_digest}
-use Rattle.der.specs.declared.Found.{Found}
-use Rattle.der.specs.declared.Found.TheVariants.{At, Nowhere}
-use Rattle.rights.specs.Rights.{Key, Entry, Role, Content, source, carrier, may_act, allowed, meets, permits, authorises}
-use Rattle.rights.specs.Constraints.{content_type_constraint, constraints_rights}
+use Rattle.rights.specs.Rights.{Key, Entry, Role, Content, may_act, allowed, meets, permits, authorises}
+use Rattle.rights.specs.Constraints.{constraints_rights}
 use Rattle.rights.specs.Attributes.{attr_value, is_other_attribute, pairs}
-use Rattle.rights.specs.Contract.Places.{constraint_for, values_under, governing_entry, rights_entry, holding, attribute_meets}
+use Rattle.rights.specs.Contract.Places.{constraint_for, values_under, governing_entry, rights_entry, attribute_meets}
 use Rattle.rights.proofs.Places.{values_under_lem, governing_entry_lem}
 
 -- the two types that are not weighed, as the code's constants have them
@@ -51,36 +50,28 @@ module _ (s : List ℕ) (e : Element) {t : List ℕ} (q : t ≡ type_of s e) {r 
       let g : d ≡ same (type_of s e) id_message_digest = k ∙ ap (same u) message_digest_is ∙ ap (λ (x : List ℕ). same x id_message_digest) w in
       rw (sym is_type ∙ b, g)
 
-pub value_found : (s : List ℕ) (e : Element) {f : Element} → f ≡ field 0x31 s e → {x : Element} → x ≡ element_at s f.start f.stop
-    → {t : List ℕ} → t ≡ encoding s x → t ≡ encoding s (attr_value s e)
-value_found s e q w h = h ∙ ap (encoding s) (w ∙ ap (λ (f : Element). element_at s f.start f.stop) q)
-
 -- one attribute, and the governing entry
-
-pub source_found : (v : List ℕ) (entry : Element) {f : Element} → f ≡ field 0x0A v entry → not f.valid ≡ (rights_entry v entry).can_source
-unfolding content_type_constraint
-source_found v entry q = ap (λ (f : Element). not f.valid) q
 
 module _ (v : List ℕ) (entry : Element) (s : List ℕ) (e : Element) {b : Bool} (w : b ≡ is_other_attribute s e) where
   pub not_weighed : not b ≡ true → true ≡ attribute_meets (rights_entry v entry) s e
   unfolding attribute_meets
   not_weighed n = let h = sym w ∙ not-true b n in rw (h, attribute_meets)
 
-  module _ (n : not b ≡ false) {t : Key} (y : t ≡ type_of s e) {f : Found} (h : f ≡ constraint_for v entry t) where
-    weighed_meets : {x : Found} → f ≡ x → attribute_meets (rights_entry v entry) s e ≡ allowed (holding (values_under v) x) (encoding s (attr_value s e))
+  module _ (n : not b ≡ false) {t : Key} (y : t ≡ type_of s e) {f : Option Element} (h : f ≡ constraint_for v entry t) where
+    weighed_meets : {x : Option Element} → f ≡ x → attribute_meets (rights_entry v entry) s e ≡ allowed (option_map (values_under v) x) (encoding s (attr_value s e))
     unfolding attribute_meets meets
     weighed_meets g =
         let k = sym w ∙ not-false b n in
         let u = sym (h ∙ ap (constraint_for v entry) y) ∙ g in
         rw (k, attribute_meets, values_under_lem v entry (type_of s e), u)
 
-    pub not_constrained : f ≡ Nowhere → true ≡ attribute_meets (rights_entry v entry) s e
-    unfolding allowed holding
+    pub not_constrained : f ≡ None → true ≡ attribute_meets (rights_entry v entry) s e
+    unfolding allowed
     not_constrained g = sym (weighed_meets g)
 
-    pub constrained : {a : Element} → f ≡ At a → {z : Key} → z ≡ encoding s (attr_value s e) → {r : Bool} → r ≡ member z (values_under v a)
+    pub constrained : {a : Element} → f ≡ Some a → {z : Key} → z ≡ encoding s (attr_value s e) → {r : Bool} → r ≡ member z (values_under v a)
         → r ≡ attribute_meets (rights_entry v entry) s e
-    unfolding allowed holding
+    unfolding allowed
     constrained {a} g j k = k ∙ ap (λ (z : Key). member z (values_under v a)) j ∙ sym (weighed_meets g)
 
 -- the pairs that the signed attributes are
@@ -106,28 +97,14 @@ pairs_meet entry s attributes = pairs-kept entry s (inside s attributes)
 abbrev pub message_content : Role → Key → List ℕ → Element → Content
 message_content role k s attributes = record { type = k; role = role; attributes = pairs s attributes }
 
-module _ (v : List ℕ) (k : Key) (s : List ℕ) (attributes : Element) {f : Found} (h : f ≡ governing_entry v k) where
-  pub not_governed : (role : Role) → f ≡ Nowhere → false ≡ authorises (constraints_rights v) (message_content role k s attributes)
-  unfolding authorises holding permits
-  not_governed role g = rw (governing_entry_lem v k, sym h ∙ g)
-
-  module _ {e : Element} (g : f ≡ At e) where
-    governed : (role : Role) → authorises (constraints_rights v) (message_content role k s attributes)
-        ≡ may_act role (rights_entry v e).can_source && all_of (attribute_meets (rights_entry v e) s) (inside s attributes)
-    unfolding authorises holding permits
-    governed role = rw (governing_entry_lem v k, sym h ∙ g, pairs_meet (rights_entry v e) s attributes)
-
-    pub carried : {r : Bool} → r ≡ all_of (attribute_meets (rights_entry v e) s) (inside s attributes)
-        → r ≡ authorises (constraints_rights v) (message_content carrier k s attributes)
-    unfolding may_act
-    carried j = j ∙ sym (governed carrier)
-
-    module _ {b : Bool} (c : b ≡ (rights_entry v e).can_source) where
-      pub not_source : not b ≡ true → false ≡ authorises (constraints_rights v) (message_content source k s attributes)
-      unfolding may_act
-      not_source n = sym (governed source ∙ rw (sym c ∙ not-true b n))
-
-      pub all_meet : not b ≡ false → {r : Bool} → r ≡ all_of (attribute_meets (rights_entry v e) s) (inside s attributes)
-          → r ≡ authorises (constraints_rights v) (message_content source k s attributes)
-      unfolding may_act
-      all_meet n j = j ∙ sym (governed source ∙ rw (sym c ∙ not-false b n))
+-- the code's answer r: false where no entry governs, else what P says of the entry that does
+module _ (v : List ℕ) (k : Key) (s : List ℕ) (attributes : Element) {f : Option Element} (h : f ≡ governing_entry v k) (role : Role) {r : Bool} {P : Element → Type 0} where
+  pub governed : MatchOption f (r ≡ false) P
+      → ((e : Element) → P e → r ≡ may_act role (rights_entry v e).can_source && all_of (attribute_meets (rights_entry v e) s) (inside s attributes))
+      → r ≡ authorises (constraints_rights v) (message_content role k s attributes)
+  unfolding authorises permits
+  governed m p = go f refl m
+    where
+      go : (x : Option Element) → f ≡ x → MatchOption x (r ≡ false) P → r ≡ authorises (constraints_rights v) (message_content role k s attributes)
+      go None g m = m ∙ sym (rw (governing_entry_lem v k, sym h ∙ g))
+      go (Some e) g m = p e m ∙ sym (rw (governing_entry_lem v k, sym h ∙ g, pairs_meet (rights_entry v e) s attributes))

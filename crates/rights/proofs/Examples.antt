@@ -1,6 +1,5 @@
 -- P1 to P10 of 01, of all contents, by the decision computed.
 use mathlib.Core.Bool.{true, false}
-use mathlib.Core.Option.{or_else}
 use mathlib.Core.Path.{◌≡◌, refl}
 use Rattle.octets.specs.Lists.{any_of}
 use Rattle.octets.specs.Octets.{same, member}
@@ -19,7 +18,7 @@ not_within signer new e w = not-both signer new w ((outside_iff signer new).0 e)
 
 pub p1_to_p10 : P1_P10
 unfolding
-    any_of same member or_else any_content_type lookup governing nothing integer oid fresh fresh_from keys find_some
+    any_of same member any_content_type lookup governing nothing integer oid fresh fresh_from keys find_some
     unlisted value_outside attribute_outside pair_outside role_outside entry_outside type_outside listed_types unlisted_type outside within
 p1_to_p10 = (
   is_within p1_signer p1_new refl,

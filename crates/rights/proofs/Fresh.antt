@@ -6,8 +6,8 @@ use mathlib.Core.Bool.{Bool, true, false, not, true≢false}
 use mathlib.Core.List.{List}
 use mathlib.Core.Path.{◌≡◌, sym, ap, ◌∙◌}
 use lib.ListN.{length, length-append, length-map}
-use lib.Dec.{eqb}
-use borrow.Author.Tests.{eqb-true, eqb-false}
+use lib.Dec.{ltb}
+use borrow.Author.Tests.{ltb-true, ltb-false}
 use Rattle.octets.specs.Lists.{filter}
 use Rattle.octets.specs.Octets.{same, member}
 use Rattle.octets.specs.Limits.{max_entries, max_values}
@@ -62,18 +62,15 @@ module _ (key : ℕ → Key) (differ : (i j : ℕ) → key i ≡ key j → i ≡
   pub fresh_bounded : (l : List Key) → fresh key l ≤ length l
   fresh_bounded l = (fresh_is l).bounded
 
-  -- the next one, where all before it are listed
-  pub fresh_more : (l : List Key) (n : ℕ) → n ≤ fresh key l → member (key n) l ≡ true → n + 1 ≤ fresh key l
-  fresh_more l n h m =
-      by_test (eqb n (fresh key l))
-      (λ e. absurd (true≢false (sym m ∙ ap (λ (i : ℕ). member (key i) l) (eqb-true n (fresh key l) e) ∙ fresh-new l)))
-      (λ e. let d = eqb-false n (fresh key l) e in omega arith)
-
-  pub fresh-found : (l : List Key) (n : ℕ) → n ≤ fresh key l → member (key n) l ≡ false → n ≡ fresh key l
-  fresh-found l n h m =
-      by_test (eqb n (fresh key l))
-      (λ e. eqb-true n (fresh key l) e)
-      (λ e. let d = eqb-false n (fresh key l) e in absurd (true≢false (sym (fresh_least l n (omega arith)) ∙ m)))
+  -- a number whose key is not listed, where those before it are
+  pub fresh_first : (l : List Key) (n : ℕ) → ((i : ℕ) → i < n → member (key i) l ≡ true) → member (key n) l ≡ false → n ≡ fresh key l
+  fresh_first l n h m =
+      by_test (ltb (fresh key l) n)
+      (λ t. absurd (true≢false (sym (h (fresh key l) (ltb-true (fresh key l) n t)) ∙ fresh-new l)))
+      (λ f.
+      by_test (ltb n (fresh key l))
+      (λ t. absurd (true≢false (sym (fresh_least l n (ltb-true n (fresh key l) t)) ∙ m)))
+      (λ g. let a = ltb-false (fresh key l) n f in let b = ltb-false n (fresh key l) g in omega arith))
 
 -- the two kinds of keys that are made
 

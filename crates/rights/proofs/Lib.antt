@@ -9,5 +9,6 @@ pub mod Examples
 pub mod Places
 pub mod Values
 pub mod Attributes
+pub mod Searches
 pub mod Engine
 pub mod Verdict

@@ -1,6 +1,6 @@
 -- The decision over all content types: those that are listed, and one that stands for all others.
+use Rattle.std.specs.Prelude.{Some, None}
 use mathlib.Core.Bool.{true, false}
-use mathlib.Core.Option.{none, some, or_else}
 use mathlib.Core.Path.{◌≡◌, sym, ap, ◌∙◌}
 use Rattle.octets.specs.Octets.{member}
 use Rattle.octets.proofs.Lists.{neither, member-append}
@@ -11,7 +11,7 @@ use Rattle.rights.proofs.Lookup.{lookup-unlisted}
 use Rattle.rights.proofs.Outside.{entry-some, entry-none}
 
 pub governing-unlisted : (rights : Rights) (type : Key) → member type (keys rights) ≡ false → governing rights type ≡ lookup any_content_type rights
-unfolding governing or_else
+unfolding governing
 governing-unlisted rights type t = rw (lookup-unlisted rights type t)
 
 module _ (signer new : Rights) where
@@ -25,7 +25,7 @@ module _ (signer new : Rights) where
   unfolding unlisted_type
   unlisted_type-new = fresh-new oid oid_differ (listed_types signer new)
 
-  pub type_some : (type : Key) {c : Content} → type_outside signer new type ≡ some c → (authorises new c ≡ true) × (authorises signer c ≡ false)
+  pub type_some : (type : Key) {c : Content} → type_outside signer new type ≡ Some c → (authorises new c ≡ true) × (authorises signer c ≡ false)
   unfolding type_outside authorises
   type_some type {c} e =
       let h = entry-some type (governing signer type) (governing new type) e in
@@ -33,7 +33,7 @@ module _ (signer new : Rights) where
       (at new ∙ h.1, at signer ∙ h.2)
 
   pub type_none :
-      (type : Key) → type_outside signer new type ≡ none → (c : Content) → permits (governing new type) c ≡ true → permits (governing signer type) c ≡ true
+      (type : Key) → type_outside signer new type ≡ None → (c : Content) → permits (governing new type) c ≡ true → permits (governing signer type) c ≡ true
   unfolding type_outside
   type_none type = entry-none type (governing signer type) (governing new type)
 

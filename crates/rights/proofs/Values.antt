@@ -1,14 +1,15 @@
 -- The smallest n that the values of an attribute constraint, or the types of two anchors, do not list.
-use Prim.Native.Nat.{ℕ, ◌+◌, ◌-◌, ◌≤◌}
+use Prim.Native.Nat.{ℕ, ◌-◌, ◌≤◌, ◌<◌}
 use native.Mathlib.Omega.{arith}
-use mathlib.Core.Bool.{Bool, true, false, not}
+use mathlib.Core.Bool.{true, false}
 use mathlib.Core.List.{List, [], ◌∷◌, map}
-use mathlib.Core.Path.{◌≡◌, refl, sym, ap, ◌∙◌}
+use mathlib.Core.Path.{◌≡◌, refl, sym, ap, subst, ◌∙◌}
 use lib.ListN.{get_or, drop}
-use borrow.Author.Tests.{not-true, not-false}
+use lib.Dec.{ltb}
+use borrow.Author.Tests.{ltb-true, ltb-false}
 use Rattle.octets.specs.Lists.{any_of}
 use Rattle.octets.specs.Octets.{Octets, slice, same, member}
-use Rattle.octets.proofs.Lists.{≢→same}
+use Rattle.octets.proofs.Lists.{by_test, ≢→same}
 use Rattle.octets.proofs.Number.{octets_take, octets_drop}
 use Rattle.der.specs.declared.Element.{Element}
 use Rattle.der.specs.declared.Compared.{Compared}
@@ -19,7 +20,7 @@ use Rattle.rights.specs.Rights.{Key}
 use Rattle.rights.specs.Decision.{oid, integer, fresh, keys, listed_types}
 use Rattle.rights.specs.Constraints.{constraints_rights}
 use Rattle.rights.specs.Contract.Places.{values_under}
-use Rattle.rights.proofs.Fresh.{fresh_more, fresh-found, oid_differ, integer_differ}
+use Rattle.rights.proofs.Fresh.{fresh_first, oid_differ, integer_differ}
 use Rattle.rights.proofs.Places.{listed_types_lem, listed-by_signer}
 
 -- an octet is below 256, so no key with 256 in it is listed
@@ -41,35 +42,34 @@ module _ (v : List ℕ) (o : Octets v) (k : Key) (i : ℕ) (h : get_or k i 0 ≡
   no_key c [] = refl
   no_key c (e ∷ l) = rw (not_key c e) (no_key c l)
 
--- the loops that look for the smallest n
+-- the smallest n, as the search for it ends
 
-module _ (l : List Key) (n : ℕ) (least : n ≤ fresh integer l) where
-  pub value_more : {r : Bool} → r ≡ member (integer n) l → not r ≡ false → n + 1 ≤ fresh integer l
-  value_more {r} h b = fresh_more integer integer_differ l n least (sym h ∙ not-false r b)
+module _ (key : ℕ → Key) (differ : (i j : ℕ) → key i ≡ key j → i ≡ j) (l : List Key) {n : ℕ} where
+  smallest : n ≤ 256 → ((i : ℕ) → i < n → member (key i) l ≡ true) → (n < 256 → member (key n) l ≡ false) → member (key 256) l ≡ false → n ≡ fresh key l
+  smallest b least new last =
+      fresh_first key differ l n least
+      (by_test (ltb n 256)
+      (λ t. new (ltb-true n 256 t))
+      (λ t. let h = ltb-false n 256 t in let e : 256 ≡ n = omega arith in subst (λ (i : ℕ). member (key i) l ≡ false) e last))
 
-  pub value-fresh : {r : Bool} → r ≡ member (integer n) l → not r ≡ true → n ≡ fresh integer l
-  value-fresh {r} h b = fresh-found integer integer_differ l n least (sym h ∙ not-true r b)
-
-pub value_last : (v : List ℕ) → Octets v → (a : Element) (n : ℕ) → n ≤ fresh integer (values_under v a) → n ≡ 256 → n ≡ fresh integer (values_under v a)
+pub value_smallest :
+    (v : List ℕ) → Octets v → (a : Element) {n : ℕ} → n ≤ 256
+    → ((i : ℕ) → i < n → member (integer i) (values_under v a) ≡ true) → (n < 256 → member (integer n) (values_under v a) ≡ false)
+    → n ≡ fresh integer (values_under v a)
 unfolding integer
-value_last v o a n least h =
-    fresh-found integer integer_differ (values_under v a) n least (no_key v o (integer n) 2 h by.Encodings (inside v (field 0x31 v a)))
+value_smallest v o a b least new =
+    smallest integer integer_differ (values_under v a) b least new (no_key v o (integer 256) 2 refl by.Encodings (inside v (field 0x31 v a)))
 
-module _ (l : List Key) (n : ℕ) (least : n ≤ fresh oid l) where
-  pub type_more : {r : Bool} → r ≡ member (oid n) l → not r ≡ false → n + 1 ≤ fresh oid l
-  type_more {r} h b = fresh_more oid oid_differ l n least (sym h ∙ not-false r b)
-
-  pub type_fresh : {r : Bool} → r ≡ member (oid n) l → not r ≡ true → n ≡ fresh oid l
-  type_fresh {r} h b = fresh-found oid oid_differ l n least (sym h ∙ not-true r b)
-
-module _ (signer new : List ℕ) (a : Octets signer) (b : Octets new) (n : ℕ) where
-  no_own : (v : List ℕ) → Octets v → n ≡ 256 → member (oid n) (keys (constraints_rights v)) ≡ false
+module _ (signer new : List ℕ) (a : Octets signer) (b : Octets new) where
+  no_own : (v : List ℕ) → Octets v → member (oid 256) (keys (constraints_rights v)) ≡ false
   unfolding oid
-  no_own v o h = ap (member (oid n)) (listed_types_lem v) ∙ no_key v o (oid n) 1 h by.Types (inside v (root v))
+  no_own v o = ap (member (oid 256)) (listed_types_lem v) ∙ no_key v o (oid 256) 1 refl by.Types (inside v (root v))
 
-  pub type_last :
-      n ≤ fresh oid (listed_types (constraints_rights signer) (constraints_rights new)) → n ≡ 256
+  pub type_smallest :
+      {n : ℕ} → n ≤ 256
+      → ((i : ℕ) → i < n → member (oid i) (listed_types (constraints_rights signer) (constraints_rights new)) ≡ true)
+      → (n < 256 → member (oid n) (listed_types (constraints_rights signer) (constraints_rights new)) ≡ false)
       → n ≡ fresh oid (listed_types (constraints_rights signer) (constraints_rights new))
-  type_last least h =
-      fresh-found oid oid_differ (listed_types (constraints_rights signer) (constraints_rights new)) n least
-      (sym (listed-by_signer (constraints_rights signer) (constraints_rights new) (oid n) refl (no_own new b h) (sym (no_own signer a h))))
+  type_smallest c least free =
+      smallest oid oid_differ (listed_types (constraints_rights signer) (constraints_rights new)) c least free
+      (listed-by_signer (constraints_rights signer) (constraints_rights new) (oid 256) (no_own new b) ∙ no_own signer a)

@@ -1,8 +1,8 @@
 -- The theorems on rights: the decision answers for all contents, the apex authorises everything, an identity anchor nothing.
+use Rattle.std.specs.Prelude.{Option, Some, None}
 use mathlib.Core.Bool.{true, false, true≢false}
 use mathlib.Core.List.{[], ◌∷◌}
 use mathlib.Core.Logic.{◌↔◌}
-use mathlib.Core.Option.{Option, none, some, or_else}
 use mathlib.Core.Path.{◌≡◌, refl, sym, ◌∙◌}
 use Rattle.octets.specs.Octets.{same, member}
 use Rattle.octets.proofs.Lists.{by_test, both, same_refl, all_of_always, member_head, member_tail}
@@ -14,14 +14,14 @@ use Rattle.rights.proofs.Types.{type_some, type_none, same-governing}
 
 module _ (signer new : Rights) where
   -- what `outside` gives lies outside
-  pub outside-some : {c : Content} → outside signer new ≡ some c → (authorises new c ≡ true) × (authorises signer c ≡ false)
+  pub outside-some : {c : Content} → outside signer new ≡ Some c → (authorises new c ≡ true) × (authorises signer c ≡ false)
   unfolding outside
   outside-some e =
       let f = find_some-some (type_outside signer new) (unlisted_type signer new ∷ listed_types signer new) e in
       type_some signer new f.0 f.2
 
   -- where it gives none, no content does
-  pub outside-none : outside signer new ≡ none → Within signer new
+  pub outside-none : outside signer new ≡ None → Within signer new
   unfolding outside authorises
   outside-none e c m =
       let u = unlisted_type signer new in
@@ -42,8 +42,8 @@ module _ (signer new : Rights) where
   answer {P} f g = go (outside signer new) refl
     where
       go : (o : Option Content) → outside signer new ≡ o → P
-      go none e = f (rw (e, within)) (outside-none e)
-      go (some c) e = let h = outside-some e in g (rw (e, within)) (c, h.0, h.1)
+      go None e = f (rw (e, within)) (outside-none e)
+      go (Some c) e = let h = outside-some e in g (rw (e, within)) (c, h.0, h.1)
 
   -- the decision says yes exactly where the new anchor is within the signer
   pub within_iff : (within signer new ≡ true) ↔ Within signer new
@@ -59,10 +59,10 @@ module _ (signer new : Rights) where
 
 -- "The apex authorises everything."
 pub apex : (c : Content) → authorises everything c ≡ true
-unfolding authorises everything governing lookup or_else permits may_act meets allowed
+unfolding authorises everything governing lookup permits may_act meets allowed
 apex c =
-    let any : lookup any_content_type everything ≡ some free = rw (same_refl any_content_type, lookup) in
-    let governs : governing everything c.type ≡ some free = by_test (same c.type any_content_type) (λ t. rw (t, lookup)) (λ t. rw (t, lookup) any) in
+    let any : lookup any_content_type everything ≡ Some free = rw (same_refl any_content_type, lookup) in
+    let governs : governing everything c.type ≡ Some free = by_test (same c.type any_content_type) (λ t. rw (t, lookup)) (λ t. rw (t, lookup) any) in
     rw governs (both (acts c.role) (all_of_always (meets []) (λ p. refl) c.attributes))
   where
     acts : (r : Role) → may_act r true ≡ true
@@ -71,7 +71,7 @@ apex c =
 
 -- "An anchor with no extension authorises nothing."
 pub identity : (c : Content) → authorises nothing c ≡ false
-unfolding authorises nothing governing lookup or_else permits
+unfolding authorises nothing governing lookup permits
 identity c = refl
 
 pub within-everything : (new : Rights) → within everything new ≡ true

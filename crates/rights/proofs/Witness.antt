@@ -1,9 +1,10 @@
 -- The content that the decision gives is a valid one, where the keys of both anchors' rights are valid and within the limits of 01: its type and value are listed, or made with a small number.
+use Rattle.std.specs.Prelude.{Option, Some, None, option_map}
+use Rattle.std.proofs.lemmas.Option.{none-some}
 use Prim.Native.Nat.{ℕ, ◌≤◌}
 use native.Mathlib.Omega.{arith}
 use mathlib.Core.Bool.{true, false, ◌&&◌, true≢false, false≢true}
 use mathlib.Core.List.{List, [], ◌∷◌}
-use mathlib.Core.Option.{Option, none, some, map, none-ne-some, map-eq-some_iff}
 use mathlib.Core.Path.{◌≡◌, refl, sym, ◌∙◌}
 use lib.ListN.{length}
 use borrow.Author.Tests.{lt-ltb, ne_eqb}
@@ -24,6 +25,7 @@ use Rattle.rights.specs.Valid.{is_type, is_value, valid_content, ValidOutside}
 use Rattle.rights.proofs.Fresh.{unlisted_type_small, unlisted_value_small}
 use Rattle.rights.proofs.Lookup.{or_else_some, find_some-some}
 use Rattle.rights.proofs.Outside.{unlisted-some}
+use Rattle.octets.proofs.Options.{map_some}
 use Rattle.rights.proofs.Within.{outside-some}
 
 -- an attribute constraint whose type and values are valid, and one with few values
@@ -58,9 +60,9 @@ module _ {A : Type 0} (P : Key × A → Type 0) where
   every_key Q f [] h = tt
   every_key Q f (e ∷ l) h = (f e h.0, every_key Q f l h.1)
 
-  every_lookup : (l : List (Key × A)) (k : Key) {x : A} → Every P l → lookup k l ≡ some x → (j : Key) × P (j, x)
+  every_lookup : (l : List (Key × A)) (k : Key) {x : A} → Every P l → lookup k l ≡ Some x → (j : Key) × P (j, x)
   unfolding lookup
-  every_lookup [] k {x} h e = absurd (none-ne-some x e)
+  every_lookup [] k {x} h e = absurd (none-some x e)
   every_lookup (p ∷ l) k {x} h e =
       by_test (same k p.0)
       (λ t. let q : p.1 ≡ x = (let s = rw (t, lookup) at e in cc) in (p.0, rw (← q) h.0))
@@ -79,51 +81,51 @@ small_value n h = rw (lt-ltb n 256 (omega arith))
 -- the decision, level by level
 
 valid_value : (signer new : Constraints) (a : Key) {v : Key} → ValidConstraints signer → ValidConstraints new
-    → value_outside (lookup a signer) (lookup a new) ≡ some v → is_value v ≡ true
+    → value_outside (lookup a signer) (lookup a new) ≡ Some v → is_value v ≡ true
 unfolding value_outside
 valid_value signer new a {v} hs hn e = go (lookup a signer) (lookup a new) refl refl e
   where
-    go : (s n : Option (List Key)) → lookup a signer ≡ s → lookup a new ≡ n → value_outside s n ≡ some v → is_value v ≡ true
-    go none n p q e = absurd (none-ne-some v e)
-    go (some values) none p q e =
+    go : (s n : Option (List Key)) → lookup a signer ≡ s → lookup a new ≡ n → value_outside s n ≡ Some v → is_value v ≡ true
+    go None n p q e = absurd (none-some v e)
+    go (Some values) None p q e =
         let h : integer (fresh integer values) ≡ v = cc in
         rw (← h) (small_value (fresh integer values) (unlisted_value_small values (every_lookup Few signer a hs.1 p).1))
-    go (some values) (some ws) p q e =
+    go (Some values) (Some ws) p q e =
         let f = find_some-some (unlisted values) ws e in
         rw (← (unlisted-some values f.0 f.2).0) (every_member _ ws f.0 (every_lookup ValidAttribute new a hn.0 q).1.1 f.1)
 
-valid_pair : (signer new : Constraints) {p : Key × Key} → ValidConstraints signer → ValidConstraints new → pair_outside signer new ≡ some p
+valid_pair : (signer new : Constraints) {p : Key × Key} → ValidConstraints signer → ValidConstraints new → pair_outside signer new ≡ Some p
     → is_type p.0 && is_value p.1 ≡ true
 unfolding pair_outside attribute_outside
 valid_pair signer new {p} hs hn e =
     let f = find_some-some (attribute_outside signer new) (keys signer) e in
-    let v = (map-eq-some_iff (pair_of f.0) (value_outside (lookup f.0 signer) (lookup f.0 new))).0 f.2 in
+    let v = map_some (pair_of f.0) (value_outside (lookup f.0 signer) (lookup f.0 new)) f.2 in
     rw (← v.2)
     (both
     (every_member _ (keys signer) f.0 (every_key ValidAttribute (λ k. is_type k ≡ true) (λ a h. h.0) signer hs.0) f.1)
     (valid_value signer new f.0 hs hn v.1))
 
 valid_entry : (type : Key) (signer new : Option Entry) {c : Content} → is_type type ≡ true
-    → ((e : Entry) → signer ≡ some e → ValidConstraints e.constraints) → ((e : Entry) → new ≡ some e → ValidConstraints e.constraints)
-    → entry_outside type signer new ≡ some c → valid_content c ≡ true
+    → ((e : Entry) → signer ≡ Some e → ValidConstraints e.constraints) → ((e : Entry) → new ≡ Some e → ValidConstraints e.constraints)
+    → entry_outside type signer new ≡ Some c → valid_content c ≡ true
 unfolding entry_outside valid_content all_of
-valid_entry type signer none {c} t hs hn e = absurd (none-ne-some c e)
-valid_entry type none (some new) {c} t hs hn e = let q : no_pair type carrier ≡ c = cc in rw (← q) (both t refl)
-valid_entry type (some signer) (some new) t hs hn e =
+valid_entry type signer None {c} t hs hn e = absurd (none-some c e)
+valid_entry type None (Some new) {c} t hs hn e = let q : no_pair type carrier ≡ c = cc in rw (← q) (both t refl)
+valid_entry type (Some signer) (Some new) t hs hn e =
     let role = role_outside signer.can_source new.can_source in
     let pair = pair_outside signer.constraints new.constraints in
-    or_else_some (map (no_pair type) role) (map (one_pair type) pair) e
-    (λ h. let f = (map-eq-some_iff (no_pair type) role).0 h in rw (← f.2) (both t refl))
+    or_else_some (option_map (no_pair type) role) (option_map (one_pair type) pair) e
+    (λ h. let f = map_some (no_pair type) role h in rw (← f.2) (both t refl))
     (λ h.
-    let f = (map-eq-some_iff (one_pair type) pair).0 h in
+    let f = map_some (one_pair type) pair h in
     rw (← f.2) (both t (both (valid_pair signer.constraints new.constraints (hs signer refl) (hn new refl) f.1) refl)))
 
 module _ (signer new : Rights) (vs : ValidRights signer) (vn : ValidRights new) where
   -- the entry that governs a type
-  governs : (rights : Rights) → ValidRights rights → (type : Key) (e : Entry) → governing rights type ≡ some e → ValidConstraints e.constraints
+  governs : (rights : Rights) → ValidRights rights → (type : Key) (e : Entry) → governing rights type ≡ Some e → ValidConstraints e.constraints
   unfolding governing
   governs rights v type e q =
-      let at : (k : Key) → lookup k rights ≡ some e → ValidConstraints e.constraints = λ k h.
+      let at : (k : Key) → lookup k rights ≡ Some e → ValidConstraints e.constraints = λ k h.
       ((every_lookup _ rights k v.keyed h).1.1, (every_lookup _ rights k v.few h).1) in
       or_else_some (lookup type rights) (lookup any_content_type rights) q (at type) (at any_content_type)
 
@@ -146,8 +148,8 @@ module _ (signer new : Rights) (vs : ValidRights signer) (vn : ValidRights new) 
   valid_outside w = go (outside signer new) refl
     where
       go : (o : Option Content) → outside signer new ≡ o → ValidOutside signer new
-      go none e = absurd (true≢false (rw (e, within) at w))
-      go (some c) e =
+      go None e = absurd (true≢false (rw (e, within) at w))
+      go (Some c) e =
           let f = find_some-some (type_outside signer new) (unlisted_type signer new ∷ listed_types signer new) e in
           let k = f.0 in
           let h = outside-some signer new e in

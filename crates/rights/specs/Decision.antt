@@ -1,7 +1,6 @@
 -- The decision of Within (specs/Rights). It yields a content that lies outside, if there is one.
-use Rattle.std.specs.Prelude.{ℕ, zero, suc, Bool, true, false, List, [], ◌∷◌, ◌++◌, map, length}
-use Rattle.std.proofs.Math.Option
-use Rattle.std.proofs.Math.Option.{Option, none, some, or_else}
+use Rattle.std.specs.Prelude.{ℕ, zero, suc, Bool, true, false, List, [], ◌∷◌, ◌++◌, map, length, Some, None, Option, option_map}
+use Rattle.std.specs.Option.{option_or}
 use Rattle.octets.specs.Octets.{member}
 use Rattle.rights.specs.Rights.{Key, Role, source, carrier, Content, Constraints, Entry, Rights, lookup, governing}
 
@@ -30,24 +29,24 @@ module _ {A : Type 0} where
 
   -- the first answer on a list
   unfoldable pub find_some : (Key → Option A) → List Key → Option A
-  find_some f [] = none
-  find_some f (k ∷ l) = or_else (f k) (find_some f l)
+  find_some f [] = None
+  find_some f (k ∷ l) = option_or (f k) (find_some f l)
 
 -- a value that is not among the listed ones
 unfoldable pub unlisted : List Key → Key → Option Key
-unlisted values value = elim (member value values) [ true ↦ none | false ↦ some value ]
+unlisted values value = elim (member value values) [ true ↦ None | false ↦ Some value ]
 
 -- For one attribute type: the values that the signer lists, those that the new anchor lists, each none where it does not constrain the attribute.
 unfoldable pub value_outside : Option (List Key) → Option (List Key) → Option Key
-value_outside none new = none
-value_outside (some signer) none = some (integer (fresh integer signer))
-value_outside (some signer) (some new) = find_some (unlisted signer) new
+value_outside None new = None
+value_outside (Some signer) None = Some (integer (fresh integer signer))
+value_outside (Some signer) (Some new) = find_some (unlisted signer) new
 
 abbrev pub pair_of : Key → Key → Key × Key
 pair_of attribute value = (attribute, value)
 
 unfoldable pub attribute_outside : Constraints → Constraints → Key → Option (Key × Key)
-attribute_outside signer new attribute = Option.map (pair_of attribute) (value_outside (lookup attribute signer) (lookup attribute new))
+attribute_outside signer new attribute = option_map (pair_of attribute) (value_outside (lookup attribute signer) (lookup attribute new))
 
 -- of two entries' constraints; an attribute that the signer's does not constrain has no value outside
 unfoldable pub pair_outside : Constraints → Constraints → Option (Key × Key)
@@ -55,9 +54,9 @@ pair_outside signer new = find_some (attribute_outside signer new) (keys signer)
 
 -- of two entries' canSource
 unfoldable pub role_outside : Bool → Bool → Option Role
-role_outside true new = none
-role_outside false true = some source
-role_outside false false = none
+role_outside true new = None
+role_outside false true = Some source
+role_outside false false = None
 
 -- The content is a carrier's unless the role lies outside, and has a pair only where the pair lies outside.
 abbrev pub no_pair : Key → Role → Content
@@ -68,12 +67,12 @@ one_pair type pair = record { type = type; role = carrier; attributes = pair ∷
 
 -- For one content type: the entries that govern it, none where there is none.
 unfoldable pub entry_outside : Key → Option Entry → Option Entry → Option Content
-entry_outside type signer none = none
-entry_outside type none (some new) = some (no_pair type carrier)
-entry_outside type (some signer) (some new) =
-    or_else
-    (Option.map (no_pair type) (role_outside signer.can_source new.can_source))
-    (Option.map (one_pair type) (pair_outside signer.constraints new.constraints))
+entry_outside type signer None = None
+entry_outside type None (Some new) = Some (no_pair type carrier)
+entry_outside type (Some signer) (Some new) =
+    option_or
+    (option_map (no_pair type) (role_outside signer.can_source new.can_source))
+    (option_map (one_pair type) (pair_outside signer.constraints new.constraints))
 
 unfoldable pub type_outside : Rights → Rights → Key → Option Content
 type_outside signer new type = entry_outside type (governing signer type) (governing new type)
@@ -92,4 +91,4 @@ outside signer new = find_some (type_outside signer new) (unlisted_type signer n
 
 -- 01's term within, decided: it is true exactly where `Within` holds (proofs/Within, `within_iff`)
 unfoldable pub within : Rights → Rights → Bool
-within signer new = elim (outside signer new) [ none ↦ true | some content ↦ false ]
+within signer new = elim (outside signer new) [ None ↦ true | Some content ↦ false ]

@@ -1,6 +1,6 @@
 -- 01, Rights (RFC 6010): what an anchor authorises, and when it is within a signer. The quotes are 01's.
-use Rattle.std.specs.Prelude.{ℕ, Bool, true, false, ◌&&◌, List, [], ◌∷◌, ◌≡◌}
-use Rattle.std.proofs.Math.Option.{Option, none, some, or_else}
+use Rattle.std.specs.Prelude.{ℕ, Bool, true, false, ◌&&◌, List, [], ◌∷◌, ◌≡◌, Option, Some, None}
+use Rattle.std.specs.Option.{option_or}
 use Rattle.octets.specs.Lists.{all_of}
 use Rattle.octets.specs.Octets.{same, member}
 
@@ -38,12 +38,12 @@ any_content_type = 0x2A ∷ 0x86 ∷ 0x48 ∷ 0x86 ∷ 0xF7 ∷ 0x0D ∷ 0x01 �
 module _ {A : Type 0} where
   -- what stands under a key, the first if it is repeated: an entry under its content type, the listed values under their attribute type
   unfoldable pub lookup : Key → List (Key × A) → Option A
-  lookup k [] = none
-  lookup k (e ∷ l) = elim (same k e.0) [ true ↦ some e.1 | false ↦ lookup k l ]
+  lookup k [] = None
+  lookup k (e ∷ l) = elim (same k e.0) [ true ↦ Some e.1 | false ↦ lookup k l ]
 
 -- 01's term: "The governing entry is the one for the content's type, else the anyContentType entry, else none."
 unfoldable pub governing : Rights → Key → Option Entry
-governing rights type = or_else (lookup type rights) (lookup any_content_type rights)
+governing rights type = option_or (lookup type rights) (lookup any_content_type rights)
 
 -- "the role is carrier or the entry is canSource"
 unfoldable pub may_act : Role → Bool → Bool
@@ -52,8 +52,8 @@ may_act source can_source = can_source
 
 -- a value under an attribute type: any where the entry does not constrain the type, else a listed one
 unfoldable pub allowed : Option (List Key) → Key → Bool
-allowed none value = true
-allowed (some values) value = member value values
+allowed None value = true
+allowed (Some values) value = member value values
 
 -- "each pair whose type the entry constrains has a listed value": one pair
 unfoldable pub meets : Constraints → Key × Key → Bool
@@ -61,8 +61,8 @@ meets constraints pair = allowed (lookup pair.0 constraints) pair.1
 
 -- the governing entry lets a content pass; where there is none, nothing passes
 unfoldable pub permits : Option Entry → Content → Bool
-permits none content = false
-permits (some entry) content = may_act content.role entry.can_source && all_of (meets entry.constraints) content.attributes
+permits None content = false
+permits (Some entry) content = may_act content.role entry.can_source && all_of (meets entry.constraints) content.attributes
 
 -- "An anchor authorises a content if there is a governing entry, the role is carrier or the entry is canSource, and each pair whose type the entry constrains
 -- has a listed value."

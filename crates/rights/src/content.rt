@@ -8,18 +8,14 @@ ghost use Rattle.rights.specs.Attributes.{attr_value, is_other_attribute, pairs}
 ghost use Rattle.rights.specs.Contract.Places.{rights_entry, attribute_meets};
 
 use crate::{constraint_for, governing, is_source, lists};
-use der::{Element, Found};
+use der::{Element, Run};
 
 // A signed attribute is weighed unless it is content-type or message-digest.
 fn is_other_attribute(s: &[u8], e: Element) -> bool
     ensures { result ≡ is_other_attribute s.now e }
 {
-    let a = syntax::ID_CONTENT_TYPE;
-    if octets::equal(der::type_of(s, e), &a) {
-        return false;
-    }
-    let b = syntax::ID_MESSAGE_DIGEST;
-    !octets::equal(der::type_of(s, e), &b)
+    let key = der::type_of(s, e);
+    !octets::equal(key, &syntax::ID_CONTENT_TYPE) && !octets::equal(key, &syntax::ID_MESSAGE_DIGEST)
 }
 
 // The first value of a signed attribute.
@@ -37,7 +33,7 @@ fn attribute_meets(v: &[u8], entry: Element, s: &[u8], e: Element) -> bool
     if !is_other_attribute(s, e) {
         return true;
     }
-    let Found::At(a) = constraint_for(v, entry, der::type_of(s, e)) else {
+    let Some(a) = constraint_for(v, entry, der::type_of(s, e)) else {
         return true; // any value, where the type is not constrained
     };
     lists(v, a, value_in(s, e))
@@ -47,16 +43,7 @@ fn attribute_meets(v: &[u8], entry: Element, s: &[u8], e: Element) -> bool
 fn attributes_meet(v: &[u8], entry: Element, s: &[u8], attributes: Element) -> bool
     ensures { result ≡ all_of (attribute_meets (rights_entry v.now entry) s.now) (inside s.now attributes) }
 {
-    let stop = attributes.stop;
-    let mut i = attributes.start;
-    while i < stop {
-        let e = der::element_at(s, i, stop);
-        if !attribute_meets(v, entry, s, e) {
-            return false;
-        }
-        i = der::next(e, stop);
-    }
-    true
+    Run::inside(s, attributes).all(|e| attribute_meets(v, entry, s, e))
 }
 
 // 01, status 11: the anchor authorises the message's type as source with the signed attributes of s.
@@ -65,23 +52,14 @@ pub fn authorises(v: &[u8], key: &[u8], s: &[u8], attributes: Element) -> bool
         (constraints_rights v.now)
         (record { type = key.now; role = source; attributes = pairs s.now attributes }) }
 {
-    let Found::At(e) = governing(v, key) else {
-        return false;
-    };
-    if !is_source(v, e) {
-        return false;
-    }
-    attributes_meet(v, e, s, attributes)
+    governing(v, key).is_some_and(|e| is_source(v, e) && attributes_meet(v, e, s, attributes))
 }
 
-// The same content in the role of a carrier.
+// The same content in the role of a carrier. (One function of the role would be no plainer: all that the two share is one line.)
 pub fn carries(v: &[u8], key: &[u8], s: &[u8], attributes: Element) -> bool
     ensures { result ≡ authorisesOf
         (constraints_rights v.now)
         (record { type = key.now; role = carrier; attributes = pairs s.now attributes }) }
 {
-    let Found::At(e) = governing(v, key) else {
-        return false;
-    };
-    attributes_meet(v, e, s, attributes)
+    governing(v, key).is_some_and(|e| attributes_meet(v, e, s, attributes))
 }

@@ -8,7 +8,7 @@ ghost use Rattle.octets.specs.Octets.{member};
 ghost use Rattle.der.specs.Element.{root};
 ghost use Rattle.rights.specs.Contract.Places.{constraint_for, values_under, entry_for, any_entry, governing_entry, rights_entry};
 
-use der::{Compared, Element, Found};
+use der::{Compared, Element};
 
 mod content;
 mod decision;
@@ -29,7 +29,7 @@ fn entries(v: &[u8]) -> Element
 }
 
 // The entry of a type.
-fn entry_for(v: &[u8], key: &[u8]) -> Found
+fn entry_for(v: &[u8], key: &[u8]) -> Option<Element>
     ensures { result ≡ entry_for v.now key.now }
 {
     let list = entries(v);
@@ -37,22 +37,20 @@ fn entry_for(v: &[u8], key: &[u8]) -> Found
 }
 
 // The anyContentType entry.
-fn any_entry(v: &[u8]) -> Found
+fn any_entry(v: &[u8]) -> Option<Element>
     ensures { result ≡ any_entry v.now }
 {
     entry_for(v, &ANY_CONTENT_TYPE)
 }
 
 // 01: the entry that governs a type is the one for it, else the anyContentType entry.
-fn governing(v: &[u8], key: &[u8]) -> Found
+fn governing(v: &[u8], key: &[u8]) -> Option<Element>
     ensures { result ≡ governing_entry v.now key.now }
 {
-    if let Found::At(e) = entry_for(v, key) {
-        return Found::At(e);
-    }
-    any_entry(v)
+    entry_for(v, key).or_else(|| any_entry(v))
 }
 
+// An entry is passed as the octets and its element, as der passes an element: a struct of the two would be taken apart at each call of der.
 // Whether an entry is canSource.
 fn is_source(v: &[u8], e: Element) -> bool
     ensures { result ≡ (rights_entry v.now e).can_source }
@@ -62,7 +60,7 @@ fn is_source(v: &[u8], e: Element) -> bool
 }
 
 // The constraint of an attribute type in an entry.
-fn constraint_for(v: &[u8], entry: Element, key: &[u8]) -> Found
+fn constraint_for(v: &[u8], entry: Element, key: &[u8]) -> Option<Element>
     ensures { result ≡ constraint_for v.now entry key.now }
 {
     let list = der::field(v, entry, der::SEQUENCE);

@@ -1,120 +1,160 @@
 // Runs cases about rights from standard input and prints an answer for each: within or not, authorised or not. tools/rights_cases.py has the format.
 #![tactic(auto)]
 
-ghost use Rattle.std.specs.Prelude.{◌≡◌, ◌+◌, ◌<◌, ◌≤◌, length};
+ghost use Rattle.std.specs.Prelude.{◌≡◌, ◌<◌, ◌≤◌, length, drop, IsSome};
+ghost use Rattle.octets.specs.Octets.{slice};
 ghost use Rattle.rights.specs.Rights.{authorises};
 ghost use Rattle.rights.specs.Decision.{within};
 ghost use Rattle.anchor.specs.Info.{rights_of};
-ghost use Rattle.rights_cases.specs.Contract.Cases.{rights_if, content_in, frame_end};
+ghost use Rattle.rights_cases.specs.Contract.Cases.{rights_if, content_role, anchor_rights, role_of, content_in, frame_end};
 
 use std::io;
 use std::io::Write;
 
-// Where the frame at p ends.
-fn frame_end(s: &[u8], p: usize) -> usize
-    requires { p ≤ length s.now }
-    ensures { result ≡ frame_end s.now p }
-{
-    let n = octets::get_be(s, p, 2) as usize;
-    let left = s.len() - p;
-    if left < 2 {
-        return s.len();
+// An anchor of a case.
+#[derive(Clone, Copy)]
+enum Anchor<'a> {
+    Apex,
+    // another, by its TrustAnchorInfo
+    Other(&'a [u8]),
+}
+
+impl<'a> Anchor<'a> {
+    // By the case's octet that says whether it is the apex.
+    fn new(apex: u8, t: &'a [u8]) -> Anchor<'a>
+        ensures { anchor_rights result ≡ rights_if apex t.now }
+    {
+        if apex == 1 {
+            return Anchor::Apex;
+        }
+        Anchor::Other(t)
     }
-    if left - 2 < n {
-        return s.len();
+}
+
+// In what role an anchor is asked for a content.
+#[derive(Clone, Copy)]
+enum Role {
+    Source,
+    Carrier,
+}
+
+impl Role {
+    // By the case's octet.
+    fn new(role: u8) -> Role
+        ensures { role_of result ≡ content_role role }
+    {
+        if role == 1 {
+            return Role::Carrier;
+        }
+        Role::Source
     }
-    p + 2 + n
 }
 
 // Whether the new anchor is within the signer.
-fn is_within(apex: u8, signer: &[u8], new: &[u8]) -> bool
-    ensures { result ≡ within (rights_if apex signer.now) (rights_of new.now) }
+fn is_within(signer: Anchor, new: &[u8]) -> bool
+    ensures { result ≡ within (anchor_rights signer.entry) (rights_of new.now) }
 {
-    if apex == 1 {
-        return true;
+    match signer {
+        Anchor::Apex => true,
+        Anchor::Other(t) => {
+            rights::is_within(anchor::constraints_value(t), anchor::constraints_value(new))
+        }
     }
-    rights::is_within(
-        anchor::constraints_value(signer),
-        anchor::constraints_value(new),
-    )
 }
 
 // Whether the anchor authorises the content.
-fn is_authorised(apex: u8, role: u8, t: &[u8], key: &[u8], attributes: &[u8]) -> bool
-    ensures { result ≡ authorises (rights_if apex t.now) (content_in role key.now attributes.now) }
+fn is_authorised(asked: Anchor, role: Role, key: &[u8], attributes: &[u8]) -> bool
+    ensures { result ≡ authorises (anchor_rights asked.entry) (content_in (role_of role) key.now attributes.now) }
 {
-    if apex == 1 {
+    let Anchor::Other(t) = asked else {
         return true;
-    }
+    };
+    let own = anchor::constraints_value(t);
     let e = der::element_at(attributes, 0, attributes.len());
-    if role == 1 {
-        return rights::carries(anchor::constraints_value(t), key, attributes, e);
+    match role {
+        Role::Source => rights::authorises(own, key, attributes, e),
+        Role::Carrier => rights::carries(own, key, attributes, e),
     }
-    rights::authorises(anchor::constraints_value(t), key, attributes, e)
 }
 
-// The answer to the case W at p, and where the case ends.
-fn within_case(s: &[u8], p: usize) -> (&'static [u8], usize)
-    requires { p + 3 ≤ length s.now }
-    ensures { (p < result.1) × (result.1 ≤ length s.now) }
+// Where the frame at the head of octets ends.
+fn frame_end(s: &[u8]) -> usize
+    ensures { result ≡ frame_end s.now 0 }
 {
-    let a = frame_end(s, p + 2);
-    let b = frame_end(s, a);
-    if is_within(
-        s[p + 1],
-        octets::slice(s, p + 4, a),
-        octets::slice(s, a + 2, b),
-    ) {
-        return (b"within\n", b);
-    }
-    (b"not\n", b)
+    let n = octets::get_be(s, 0, 2) as usize;
+    s.len().min(2 + n)
 }
 
-// The answer to the case A at p, and where the case ends.
-fn authorised_case(s: &[u8], p: usize) -> (&'static [u8], usize)
-    requires { p + 3 ≤ length s.now }
-    ensures { (p < result.1) × (result.1 ≤ length s.now) }
-{
-    let a = frame_end(s, p + 3);
-    let b = frame_end(s, a);
-    let e = frame_end(s, b);
-    let t = octets::slice(s, p + 5, a);
-    if is_authorised(
-        s[p + 1],
-        s[p + 2],
-        t,
-        octets::slice(s, a + 2, b),
-        octets::slice(s, b + 2, e),
-    ) {
-        return (b"authorised\n", e);
-    }
-    (b"not\n", e)
+// The cases that are left.
+#[derive(Drop)]
+struct Cases<'a> {
+    left: &'a [u8],
 }
 
-// The answer to the case at p, and where the case ends.
-fn case(s: &[u8], p: usize) -> (&'static [u8], usize)
-    requires { p + 3 ≤ length s.now }
-    ensures { (p < result.1) × (result.1 ≤ length s.now) }
-{
-    if s[p] == b'W' {
-        return within_case(s, p);
+impl<'a> Cases<'a> {
+    // The octets of the frame at the head, which the input's end may cut off.
+    fn frame(&mut self) -> &'a [u8]
+        ensures octets { result.now ≡ slice self.old.left.now 2 (frame_end self.old.left.now 0) }
+        ensures behind { self.new.left.now ≡ drop (frame_end self.old.left.now 0) self.old.left.now }
+    {
+        let s = self.left;
+        let end = frame_end(s);
+        self.left = &s[end..];
+        octets::slice(s, 2, end)
     }
-    authorised_case(s, p)
+
+    // The answer to the case W, behind its first two octets.
+    fn within(&mut self, apex: u8) -> &'static str
+        ensures { length self.new.left.now ≤ length self.old.left.now }
+    {
+        let signer = Anchor::new(apex, self.frame());
+        let new = self.frame();
+        if is_within(signer, new) {
+            "within"
+        } else {
+            "not"
+        }
+    }
+
+    // The answer to the case A, behind its first three octets.
+    fn authorised(&mut self, apex: u8, role: u8) -> &'static str
+        ensures { length self.new.left.now ≤ length self.old.left.now }
+    {
+        let asked = Anchor::new(apex, self.frame());
+        let key = self.frame();
+        let attributes = self.frame();
+        if is_authorised(asked, Role::new(role), key, attributes) {
+            "authorised"
+        } else {
+            "not"
+        }
+    }
+
+    // The answer to the next case, if there is one.
+    fn answer(&mut self) -> Option<&'static str>
+        ensures given { 3 ≤ length self.old.left.now → IsSome result }
+        ensures less { IsSome result → length self.new.left.now < length self.old.left.now }
+    {
+        let s = self.left;
+        if s.len() < 3 {
+            return None;
+        }
+        if s[0] == b'W' {
+            self.left = &s[2..];
+            return Some(self.within(s[1]));
+        }
+        self.left = &s[3..];
+        Some(self.authorised(s[1], s[2]))
+    }
 }
 
 fn main(rt: HostRuntime) -> io::Result<()> {
     let mut input = [0u8; 65536];
     let n = reader::read_full(&mut rt.stdin(), &mut input)?;
-    let s = &input[..n];
+    let mut cases = Cases { left: &input[..n] };
     let mut out = rt.stdout();
-    let mut p = 0;
-    while p < s.len() {
-        if s.len() - p < 3 {
-            break;
-        }
-        let (answer, end) = case(s, p);
-        out.write_all(answer)?;
-        p = end;
+    while let Some(answer) = cases.answer() {
+        writeln!(out, "{answer}")?;
     }
     Ok(())
 }

@@ -1,9 +1,10 @@
 -- The formats of the image's parts (01, The store image): for each the reader and the writer of specs/Image, and the test that a well-formed store passes.
+use Rattle.std.specs.Option.{option_map_or}
+use Rattle.std.specs.Prelude.{Option, Some, None}
 use Prim.Native.Nat.{ℕ, suc, ◌-◌, ◌^◌, ◌≤◌, ◌<◌}
 use native.Mathlib.Omega.{arith}
 use mathlib.Core.Bool.{Bool, true, false, ◌&&◌, ◌||◌, and-eq-true_iff}
 use mathlib.Core.List.{List, [], ◌∷◌, ◌++◌, map, flat_map, append_assoc, append-nil}
-use mathlib.Core.Option.{Option, none, some, Option-elim}
 use mathlib.Core.Path.{◌≡◌, refl, sym, ap, ◌∙◌}
 use lib.ListN.{length}
 use lib.Dec.{leb, eqb, lit<}
@@ -134,11 +135,11 @@ device_section = record { reads = device_section_read; was = device_section_was 
 
 -- "number present (0 or 1), number (.. zero if absent)": what the two octet strings give, and what it is written as
 pub record Numbered (present n : ℕ) : Type 0 where
-  pub valid : Option-elim (present_number present n) true (λ m. leb m max_number) ≡ true
+  pub valid : option_map_or (λ m. leb m max_number) (present_number present n) true ≡ true
   pub back : encode_number (present_number present n) ≡ present ∷ big_endian 8 n
 
 pub numbered : (present n : ℕ) → number_ok present n ≡ true → Numbered present n
-unfolding number_ok present_number encode_number Option-elim
+unfolding number_ok present_number encode_number
 numbered present n g =
     let h = (and-eq-true_iff (leb present 1 && leb n max_number) (eqb present 1 || eqb n 0)).0 g in
     let k = (and-eq-true_iff (leb present 1) (leb n max_number)).0 h.0 in
@@ -182,10 +183,10 @@ record_read present n info rest g h =
 
 anchor_read : (o : Option ℕ) (info rest : List ℕ) → anchor_ok (record { number = o; info = info }) ≡ true
     → read_anchor (encode_anchor (record { number = o; info = info }) ++ rest) ≡ found (record { number = o; info = info }) rest
-unfolding anchor_ok encode_anchor encode_number number_ok present_number Option-elim
-anchor_read none info rest g =
+unfolding anchor_ok encode_anchor encode_number number_ok present_number
+anchor_read None info rest g =
     rw (append_assoc (big_endian 8 0) (write_sized 2 info) rest) (record_read 0 0 info rest refl g)
-anchor_read (some n) info rest g =
+anchor_read (Some n) info rest g =
     let h = (and-eq-true_iff (leb n max_number) (storable info)).0 g in
     rw (append_assoc (big_endian 8 n) (write_sized 2 info) rest) (record_read 1 n info rest (both h.0 refl) h.1)
 

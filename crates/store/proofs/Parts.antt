@@ -1,9 +1,9 @@
 -- The parts of an image (specs/Contract/Parts) are those of its store.
+use Rattle.std.specs.Prelude.{Option, Some, None}
 use Prim.Native.Nat.{ℕ, zero, suc, ◌+◌, ◌-◌, ◌<◌}
 use native.Mathlib.Omega.{arith}
 use mathlib.Core.Bool.{Bool, true, false, and-eq-true_iff}
 use mathlib.Core.List.{List, [], ◌∷◌, ◌++◌, map, flat_map, append_assoc, map-map}
-use mathlib.Core.Option.{some}
 use mathlib.Core.Path.{◌≡◌, refl, sym, ap, ap₂, ◌∙◌}
 use lib.ListN.{length, take, drop, get_or, length-map, length-append}
 use lib.Seq.{drop-drop, drop_at, take_at}
@@ -15,8 +15,6 @@ use Rattle.octets.specs.Octets.{Octets, octet, slice}
 use Rattle.octets.specs.Number.{number}
 use Rattle.octets.proofs.Lists.{by_test}
 use Rattle.octets.proofs.Number.{octets_drop}
-use Rattle.store.specs.declared.Position.{Position}
-use Rattle.store.specs.declared.Position.TheVariants.{At, Nothing}
 use Rattle.store.specs.Store.{Device, Anchor, Store, anchors, identifier_of, identifiers}
 use Rattle.store.specs.Image.{found, read_sized, read_times, read_device, read_anchor, read_device_section, read_anchor_section, read_community_section}
 use Rattle.store.specs.Image.{read_store, decode, encode_name}
@@ -128,7 +126,7 @@ pub record PartsOf (image : List ℕ) (σ : Store) : Type 0 where
   pub communities : communities_of image ≡ σ.communities
   pub octets : Octets image → community_octets image ≡ flat_map encode_name σ.communities
 
-pub parts : (image : List ℕ) (σ : Store) → decode image ≡ some σ → PartsOf image σ
+pub parts : (image : List ℕ) (σ : Store) → decode image ≡ Some σ → PartsOf image σ
 unfolding decode read_store anchor_count first_record community_place community_count community_octets communities_of
 parts image σ e =
     let all = alone-found (read_store image) σ e in
@@ -151,10 +149,10 @@ parts image σ e =
     })
 
 -- whatever is asked of each record is asked of its anchor: the TrustAnchorInfos, numbers, identifiers and public keys of an image are those of its store
-pub of_anchors : {B : Type 0} (f : Anchor → B) (image : List ℕ) (σ : Store) → decode image ≡ some σ → map (λ r. f (anchor_in r)) (records_of image) ≡ map f (anchors σ)
+pub of_anchors : {B : Type 0} (f : Anchor → B) (image : List ℕ) (σ : Store) → decode image ≡ Some σ → map (λ r. f (anchor_in r)) (records_of image) ≡ map f (anchors σ)
 of_anchors f image σ e = sym (map-map f anchor_in (records_of image)) ∙ ap (map f) (parts image σ e).anchors_are
 
-module _ (image : List ℕ) (σ : Store) (e : decode image ≡ some σ) where
+module _ (image : List ℕ) (σ : Store) (e : decode image ≡ Some σ) where
   pub identifiers_of : map identifier_in (records_of image) ≡ identifiers σ
   identifiers_of = of_anchors identifier_of image σ e
 
@@ -170,13 +168,13 @@ unfolding names_from
 names_count zero s = refl
 names_count (suc n) s = ap suc (names_count n (drop (1 + octet s 0) s))
 
-pub count_of_anchors : (image : List ℕ) (σ : Store) → decode image ≡ some σ → anchor_count image ≡ length (anchors σ)
+pub count_of_anchors : (image : List ℕ) (σ : Store) → decode image ≡ Some σ → anchor_count image ≡ length (anchors σ)
 count_of_anchors image σ e =
     sym (ap length (records_of_lem image) ∙ records_count (anchor_count image) (drop (first_record image) image))
     ∙ sym (length-map (records_of image) anchor_in)
     ∙ ap length (parts image σ e).anchors_are
 
-pub count_of_communities : (image : List ℕ) (σ : Store) → decode image ≡ some σ → community_count image ≡ length σ.communities
+pub count_of_communities : (image : List ℕ) (σ : Store) → decode image ≡ Some σ → community_count image ≡ length σ.communities
 unfolding communities_of
 count_of_communities image σ e = sym (names_count (community_count image) (community_octets image)) ∙ ap length (parts image σ e).communities
 
@@ -192,9 +190,9 @@ record_at_position image i h =
     ap (λ (l : List (List ℕ)). get_or l i []) (records_of_lem image) ∙ at_position image (anchor_count image) (first_record image) i h
 
 -- a search finds a position, or no member passes
-abbrev pub is_at : Position → Bool
-is_at (At i) = true
-is_at Nothing = false
+abbrev pub is_at : Option ℕ → Bool
+is_at (Some i) = true
+is_at None = false
 
 module _ {A : Type 0} (p : A → Bool) where
   pub first_any : (i : ℕ) (l : List A) → is_at (first_from i p l) ≡ any_of p l

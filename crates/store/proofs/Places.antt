@@ -1,10 +1,10 @@
 -- What the readers give at a place of the image, where the octets asked for are there and where they are not; and the parts of a record.
+use Rattle.std.specs.Prelude.{None}
 use Prim.Native.Nat.{ℕ, ◌+◌, ◌≤◌, ◌<◌}
 use native.Mathlib.Nat.{zero-add}
 use native.Mathlib.Omega.{arith}
 use mathlib.Core.Bool.{true, ◌&&◌, and-eq-true_iff}
 use mathlib.Core.List.{List, [], ◌++◌, append_assoc, append-nil}
-use mathlib.Core.Option.{none}
 use mathlib.Core.Path.{◌≡◌, sym, ap, ◌∙◌}
 use lib.ListN.{length, take, drop, length-drop}
 use lib.Seq.{take_at, drop_at, drop-drop, drop-cons}
@@ -34,7 +34,7 @@ module _ (s : List ℕ) (p : ℕ) where
   unfolding read_octets provided
   octets_at n h = rw (le-leb n (length (drop p s)) (rw (length-drop p s) (omega arith)), drop-drop n p s)
 
-  pub octets_short : (n : ℕ) → 0 < n → length s < p + n → read_octets n (drop p s) ≡ none
+  pub octets_short : (n : ℕ) → 0 < n → length s < p + n → read_octets n (drop p s) ≡ None
   unfolding read_octets provided
   octets_short n z h = rw (lt-leb n (length (drop p s)) (rw (length-drop p s) (omega arith)))
 
@@ -44,20 +44,20 @@ module _ (s : List ℕ) (p : ℕ) where
   unfolding read_number pass_on
   number_at_lem k h = rw (octets_at k h)
 
-  pub number_short : (k : ℕ) → 0 < k → length s < p + k → read_number k (drop p s) ≡ none
+  pub number_short : (k : ℕ) → 0 < k → length s < p + k → read_number k (drop p s) ≡ None
   unfolding read_number pass_on
   number_short k z h = rw (octets_short k z h)
 
   pub octet_at : p < length s → read_number 1 (drop p s) ≡ found (octet s p) (drop (p + 1) s)
   octet_at h = number_at_lem 1 (omega arith) ∙ ap (λ (n : ℕ). found n (drop (p + 1) s)) (number_one s p h)
 
-  pub octet_short : length s ≤ p → read_number 1 (drop p s) ≡ none
+  pub octet_short : length s ≤ p → read_number 1 (drop p s) ≡ None
   octet_short h = number_short 1 (lit< tt) (omega arith)
 
 -- a length of k octets, and as many octets
 
 module _ (s : List ℕ) (p k most : ℕ) where
-  pub sized_short : 0 < k → length s < p + k → read_sized k most (drop p s) ≡ none
+  pub sized_short : 0 < k → length s < p + k → read_sized k most (drop p s) ≡ None
   unfolding read_sized
   sized_short z h = passes_none _ _ (number_short s p k z h)
 
@@ -72,11 +72,11 @@ module _ (s : List ℕ) (p k most : ℕ) where
         ∙ allowed _ _ _ (both (le-leb 1 n l) (le-leb n most m))
         ∙ octets_at s (p + k) n h
 
-    pub sized_cut : length s < p + k + n → read_sized k most (drop p s) ≡ none
+    pub sized_cut : length s < p + k + n → read_sized k most (drop p s) ≡ None
     unfolding read_sized
     sized_cut h = passes _ _ _ _ length_read ∙ nothing _ _ _ (octets_short s (p + k) n (omega arith) h)
 
-    pub sized_outside : (1 ≤ n → n ≤ most → ⊥) → read_sized k most (drop p s) ≡ none
+    pub sized_outside : (1 ≤ n → n ≤ most → ⊥) → read_sized k most (drop p s) ≡ None
     unfolding read_sized
     sized_outside h =
         let no : leb 1 n && leb n most ≡ true → ⊥ = λ e.
@@ -99,7 +99,7 @@ module _ (s : List ℕ) (p : ℕ) where
       let e : p + 1 + 8 ≡ p + 9 = omega arith in
       passes _ _ _ _ (octet_at s p (omega arith)) ∙ passes _ _ _ _ (number_at_lem s (p + 1) 8 (omega arith)) ∙ rw e
 
-  pub anchor_short : length s < p + 11 → read_anchor (drop p s) ≡ none
+  pub anchor_short : length s < p + 11 → read_anchor (drop p s) ≡ None
   unfolding read_anchor
   anchor_short h =
       by_test (ltb p (length s))
@@ -112,10 +112,10 @@ module _ (s : List ℕ) (p : ℕ) where
       (λ a. passes_none _ _ (octet_short s p (ltb-false p (length s) a)))
 
   module _ (n : ℕ) (room : p + 11 ≤ length s) (size : number (take 2 (drop (p + 9) s)) ≡ n) where
-    pub anchor_cut : length s < p + 11 + n → read_anchor (drop p s) ≡ none
+    pub anchor_cut : length s < p + 11 + n → read_anchor (drop p s) ≡ None
     anchor_cut h = anchor_upto (omega arith) ∙ passes_none _ _ (sized_cut s (p + 9) 2 max_anchor_octets n (omega arith) size (omega arith))
 
-    pub anchor_outside : (1 ≤ n → n ≤ max_anchor_octets → ⊥) → read_anchor (drop p s) ≡ none
+    pub anchor_outside : (1 ≤ n → n ≤ max_anchor_octets → ⊥) → read_anchor (drop p s) ≡ None
     anchor_outside h = anchor_upto (omega arith) ∙ passes_none _ _ (sized_outside s (p + 9) 2 max_anchor_octets n (omega arith) size h)
 
     pub anchor_at : 1 ≤ n → n ≤ max_anchor_octets → p + 11 + n ≤ length s

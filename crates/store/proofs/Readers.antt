@@ -1,10 +1,11 @@
 -- Laws of the readers of the image (specs/Image), each both ways: what is written is read, and what is read was written.
+use Rattle.std.specs.Prelude.{Option, Some, None}
+use Rattle.std.proofs.lemmas.Option.{none-some, same_Some}
 use Prim.Native.Nat.{ℕ, zero, suc, ◌^◌, ◌≤◌, ◌<◌}
 use native.Mathlib.Nat.{zero-add, mod-eq_of_lt}
 use native.Mathlib.Omega.{arith}
 use mathlib.Core.Bool.{Bool, true, false, ◌&&◌, and-eq-true_iff}
 use mathlib.Core.List.{List, [], ◌∷◌, ◌++◌, flat_map, append_assoc}
-use mathlib.Core.Option.{Option, none, some, none-ne-some, some-injective}
 use mathlib.Core.Path.{◌≡◌, refl, sym, ap, ap₂, ◌∙◌, subst}
 use lib.ListN.{length, length-append, take-append-drop}
 use lib.Seq.{take_at, drop_at, length-take-le}
@@ -21,29 +22,29 @@ module _ {A : Type 0} where
   -- a reader gives one value and one rest
   pub same-found : (x y : A) (s t : List ℕ) → found x s ≡ found y t → (x ≡ y) × (s ≡ t)
   same-found x y s t e =
-      let p = some-injective _ _ e in
+      let p = same_Some _ _ e in
       (ap (λ (q : A × List ℕ). q.0) p, ap (λ (q : A × List ℕ). q.1) p)
 
   -- what holds of what a reader found
   pub as_found : (P : A → List ℕ → Type 0) (x y : A) (s t : List ℕ) → found x s ≡ found y t → P x s → P y t
-  as_found P x y s t e = subst (λ (q : A × List ℕ). P q.0 q.1) (some-injective _ _ e)
+  as_found P x y s t e = subst (λ (q : A × List ℕ). P q.0 q.1) (same_Some _ _ e)
 
   -- a rule that let a reader go on
-  pub granted : (b : Bool) (r : Reader A) (s : List ℕ) (q : A × List ℕ) → provided b r s ≡ some q → (b ≡ true) × (r s ≡ some q)
+  pub granted : (b : Bool) (r : Reader A) (s : List ℕ) (q : A × List ℕ) → provided b r s ≡ Some q → (b ≡ true) × (r s ≡ Some q)
   unfolding provided
   granted true r s q e = (refl, e)
-  granted false r s q e = absurd (none-ne-some q e)
+  granted false r s q e = absurd (none-some q e)
 
   -- under a rule: where it is kept, where it is broken, and where nothing is found anyway
   pub allowed : (b : Bool) (r : Reader A) (s : List ℕ) → b ≡ true → provided b r s ≡ r s
   unfolding provided
   allowed b r s e = rw e
 
-  pub refused : (b : Bool) (r : Reader A) (s : List ℕ) → b ≡ false → provided b r s ≡ none
+  pub refused : (b : Bool) (r : Reader A) (s : List ℕ) → b ≡ false → provided b r s ≡ None
   unfolding provided
   refused b r s e = rw e
 
-  pub nothing : (b : Bool) (r : Reader A) (s : List ℕ) → r s ≡ none → provided b r s ≡ none
+  pub nothing : (b : Bool) (r : Reader A) (s : List ℕ) → r s ≡ None → provided b r s ≡ None
   unfolding provided
   nothing true r s e = e
   nothing false r s e = refl
@@ -54,18 +55,18 @@ module _ {A B : Type 0} where
     pub value : A
     pub after : List ℕ
     pub first : o ≡ found value after
-    pub second : f value after ≡ some q
+    pub second : f value after ≡ Some q
 
-  pub passed : (o : Option (A × List ℕ)) (f : A → Reader B) (q : B × List ℕ) → pass_on o f ≡ some q → Passed o f q
+  pub passed : (o : Option (A × List ℕ)) (f : A → Reader B) (q : B × List ℕ) → pass_on o f ≡ Some q → Passed o f q
   unfolding pass_on
-  passed none f q e = absurd (none-ne-some q e)
-  passed (some p) f q e = record { value = p.0; after = p.1; first = refl; second = e }
+  passed None f q e = absurd (none-some q e)
+  passed (Some p) f q e = record { value = p.0; after = p.1; first = refl; second = e }
 
   pub passes : (o : Option (A × List ℕ)) (f : A → Reader B) (x : A) (t : List ℕ) → o ≡ found x t → pass_on o f ≡ f x t
   unfolding pass_on
   passes o f x t e = rw e
 
-  pub passes_none : (o : Option (A × List ℕ)) (f : A → Reader B) → o ≡ none → pass_on o f ≡ none
+  pub passes_none : (o : Option (A × List ℕ)) (f : A → Reader B) → o ≡ None → pass_on o f ≡ None
   unfolding pass_on
   passes_none o f e = rw e
 
@@ -132,7 +133,7 @@ octet_read n rest = rw (octets_read 1 (n ∷ []) rest refl, zero-add n)
 
 pub octet-found : (s : List ℕ) (n : ℕ) (rest : List ℕ) → read_number 1 s ≡ found n rest → n ∷ rest ≡ s
 unfolding read_number read_octets provided pass_on
-octet-found [] n rest e = absurd (none-ne-some (n, rest) e)
+octet-found [] n rest e = absurd (none-some (n, rest) e)
 octet-found (x ∷ s) n rest e =
     let q = same-found _ _ _ _ (sym (octet_read x s) ∙ e) in
     sym (ap₂ ◌∷◌ q.0 q.1)

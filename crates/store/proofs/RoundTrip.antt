@@ -1,8 +1,9 @@
 -- 01, The store image: image and store tell each other.
+use Rattle.std.specs.Prelude.{Option, Some, None}
+use Rattle.std.proofs.lemmas.Option.{none-some, same_Some}
 use Prim.Native.Nat.{ℕ}
 use mathlib.Core.Bool.{true}
 use mathlib.Core.List.{List, [], ◌∷◌, append-nil}
-use mathlib.Core.Option.{Option, none, some, none-ne-some, some-injective}
 use mathlib.Core.Path.{◌≡◌, sym, ap, ◌∙◌}
 use Rattle.octets.specs.Octets.{Octets}
 use Rattle.store.specs.Store.{Store}
@@ -11,23 +12,23 @@ use Rattle.store.proofs.Formats.{store}
 
 -- "nothing behind them"
 module _ {A : Type 0} where
-  pub alone-found : (o : Option (A × List ℕ)) (x : A) → alone o ≡ some x → o ≡ found x []
+  pub alone-found : (o : Option (A × List ℕ)) (x : A) → alone o ≡ Some x → o ≡ found x []
   unfolding alone
-  alone-found none x e = absurd (none-ne-some x e)
-  alone-found (some p) x e = at_end p.0 p.1 e
+  alone-found None x e = absurd (none-some x e)
+  alone-found (Some p) x e = at_end p.0 p.1 e
     where
-      at_end : (y : A) (t : List ℕ) → alone (found y t) ≡ some x → found y t ≡ found x []
-      at_end y [] e = ap (λ (z : A). found z []) (some-injective y x e)
-      at_end y (c ∷ t) e = absurd (none-ne-some x e)
+      at_end : (y : A) (t : List ℕ) → alone (found y t) ≡ Some x → found y t ≡ found x []
+      at_end y [] e = ap (λ (z : A). found z []) (same_Some y x e)
+      at_end y (c ∷ t) e = absurd (none-some x e)
 
-pub decode-encode : (σ : Store) → well_formed σ ≡ true → decode (encode σ) ≡ some σ
+pub decode-encode : (σ : Store) → well_formed σ ≡ true → decode (encode σ) ≡ Some σ
 unfolding decode alone
 decode-encode σ g = rw (← append-nil (encode σ), store.reads σ [] g)
 
-pub decode-well_formed : (image : List ℕ) (σ : Store) → decode image ≡ some σ → well_formed σ ≡ true
+pub decode-well_formed : (image : List ℕ) (σ : Store) → decode image ≡ Some σ → well_formed σ ≡ true
 unfolding decode
 decode-well_formed image σ e = (store.was image σ [] (alone-found (read_store image) σ e)).valid
 
-pub encode-decode : (image : List ℕ) (σ : Store) → Octets image → decode image ≡ some σ → encode σ ≡ image
+pub encode-decode : (image : List ℕ) (σ : Store) → Octets image → decode image ≡ Some σ → encode σ ≡ image
 unfolding decode
 encode-decode image σ o e = sym (append-nil (encode σ)) ∙ (store.was image σ [] (alone-found (read_store image) σ e)).back o

@@ -1,10 +1,11 @@
 -- How long an image is (01, The store image: "The largest image is 33,717 octets").
+use Rattle.std.specs.Option.{option_map_or}
+use Rattle.std.specs.Prelude.{Option, Some, None}
 use Prim.Native.Nat.{ℕ, suc, ◌+◌, ◌*◌, ◌≤◌}
 use native.Mathlib.Nat.{mul-suc}
 use native.Mathlib.Omega.{arith}
 use mathlib.Core.Bool.{Bool, true, and-eq-true_iff}
 use mathlib.Core.List.{List, [], ◌∷◌, ◌++◌, flat_map}
-use mathlib.Core.Option.{Option, none, some, Option-elim}
 use mathlib.Core.Path.{◌≡◌, ap}
 use lib.ListN.{length, length-append}
 use lib.Dec.{leb}
@@ -36,7 +37,7 @@ community_size c g = name_size c (community_name c g)
 
 pub info_storable : (a : Anchor) → anchor_ok a ≡ true → storable a.info ≡ true
 unfolding anchor_ok
-info_storable a g = ((and-eq-true_iff (Option-elim a.number true (λ n. leb n max_number)) (storable a.info)).0 g).1
+info_storable a g = ((and-eq-true_iff (option_map_or (λ n. leb n max_number) a.number true) (storable a.info)).0 g).1
 
 pub info_size : (a : Anchor) → anchor_ok a ≡ true → (1 ≤ length a.info) × (length a.info ≤ max_anchor_octets)
 info_size a g = storable_size a.info (info_storable a g)
@@ -45,8 +46,8 @@ info_size a g = storable_size a.info (info_storable a g)
 
 pub length-encode_number : (o : Option ℕ) → length (encode_number o) ≡ 9
 unfolding encode_number
-length-encode_number none = ap suc (length-big_endian 8 0)
-length-encode_number (some n) = ap suc (length-big_endian 8 n)
+length-encode_number None = ap suc (length-big_endian 8 0)
+length-encode_number (Some n) = ap suc (length-big_endian 8 n)
 
 -- 1 octet, 8, 2 and the TrustAnchorInfo
 pub length-encode_anchor : (a : Anchor) → length (encode_anchor a) ≡ 11 + length a.info

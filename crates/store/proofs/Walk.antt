@@ -1,27 +1,26 @@
 -- The walk over records and names (specs/Contract/Parts): what stands at a place, and what is left after it.
+use Rattle.std.specs.Prelude.{Some, None, Result, Ok, Err}
+use Rattle.std.specs.List.{position_from}
+use Rattle.store.specs.declared.NoSigner.TheVariants.{Unverified}
+use Rattle.store.specs.declared.NoSigner.{NoSigner}
 use Prim.Native.Nat.{ℕ, zero, suc, ◌+◌, ◌-◌, ◌≤◌, ◌<◌, min}
 use native.Mathlib.Omega.{arith}
 use native.Mathlib.Numerals.{add-one}
 use mathlib.Core.Bool.{Bool, true, false}
 use mathlib.Core.List.{List, [], ◌∷◌, map}
-use mathlib.Core.Option.{none, some}
 use mathlib.Core.Path.{◌≡◌, refl, sym, ap, ap₂, ◌∙◌}
 use lib.ListN.{length, take, drop, length-drop, drop_of_length-le}
 use lib.Seq.{take_all, take-nil, take-take, drop-drop, get_or-drop}
 use lib.Dec.{leb, eqb}
 use borrow.Author.Tests.{leb-true, leb-false, eq-eqb, ne_eqb}
-use Rattle.octets.specs.Lists.{any_of}
-use Rattle.octets.specs.Octets.{octet, slice, same, member}
+use Rattle.octets.specs.Octets.{octet, slice, same}
 use Rattle.octets.specs.Number.{number}
 use Rattle.octets.proofs.Lists.{by_test}
-use Rattle.store.specs.declared.FoundSigner.{FoundSigner}
-use Rattle.store.specs.declared.FoundSigner.TheVariants as found
-use Rattle.store.specs.declared.Position.TheVariants.{At, Nothing}
 use Rattle.store.specs.Image.{present_number}
 use Rattle.store.specs.Records.{records_from, anchor_section, records_of}
 use Rattle.store.specs.Signer.{signer_from}
-use Rattle.store.specs.Contract.Parts.{anchor_count, first_record, record_end, record_at, record_place, info_in, identifier_in, number_in}
-use Rattle.store.specs.Contract.Parts.{name_end, name_at, names_from, names_size, first_from, infos_from}
+use Rattle.store.specs.Contract.Parts.{anchor_count, first_record, record_end, record_at, record_place, identifier_in, number_in}
+use Rattle.store.specs.Contract.Parts.{name_end, name_at, names_from, names_size, first_from}
 
 -- k octets at place p, and what is after them
 
@@ -101,11 +100,11 @@ records_of_lem image =
     (ap₂ records_from (get_or-drop (2 + h + 1 + v) image 0 0 ∙ ap (octet image) z) (drop-drop 1 (2 + h + 1 + v) image))
 
 -- a record's number
-pub number-given : (r : List ℕ) {b n : ℕ} → b ≡ octet r 0 → b ≡ 1 → n ≡ number (take 8 (drop 1 r)) → some n ≡ number_in r
+pub number-given : (r : List ℕ) {b n : ℕ} → b ≡ octet r 0 → b ≡ 1 → n ≡ number (take 8 (drop 1 r)) → Some n ≡ number_in r
 unfolding number_in present_number
 number-given r e f g = rw (g, eq-eqb (octet r 0) 1 (sym e ∙ f), present_number)
 
-pub number-absent : (r : List ℕ) {b : ℕ} → b ≡ octet r 0 → (b ≡ 1 → ⊥) → none ≡ number_in r
+pub number-absent : (r : List ℕ) {b : ℕ} → b ≡ octet r 0 → (b ≡ 1 → ⊥) → None ≡ number_in r
 unfolding number_in present_number
 number-absent r e f = rw (ne_eqb (octet r 0) 1 (λ h. f (e ∙ h)), present_number)
 
@@ -134,6 +133,52 @@ names_turn s n p =
     (ap₂ take o (drop-drop 1 p s) ∙ cut_take s (p + 1) k)
     (ap (names_from n)
     (ap (λ (m : ℕ). drop (1 + m) (drop p s)) o ∙ drop-drop (1 + k) p s ∙ ap (λ (m : ℕ). drop m s) j ∙ sym (drop-drop k (p + 1) s) ∙ cut_drop s (p + 1) k))
+
+-- no record, and no name
+module _ (s : List ℕ) {left : ℕ} (h : left ≡ 0) where
+  pub records_none : records_from left s ≡ []
+  unfolding records_from
+  records_none = rw h
+
+  pub names_none : names_from left s ≡ []
+  unfolding names_from
+  names_none = rw h
+
+pub length-records : (n : ℕ) (s : List ℕ) → length (records_from n s) ≡ n
+unfolding records_from
+length-records zero s = refl
+length-records (suc n) s = ap suc (length-records n (drop (11 + number (slice s 9 11)) s))
+
+pub length-names : (n : ℕ) (s : List ℕ) → length (names_from n s) ≡ n
+unfolding names_from
+length-names zero s = refl
+length-names (suc n) s = ap suc (length-names n (drop (1 + octet s 0) s))
+
+-- the parts at the head of octets, one of them taken: the front is its octets, what it stands in is cut there
+
+-- the octets up to a place
+upto : (s : List ℕ) (e : ℕ) → slice s 0 e ≡ take e s
+upto s e = let z : e - 0 ≡ e = omega arith in ap (λ n. take n s) z
+
+counted : (left : ℕ) → (left ≡ 0 → ⊥) → left ≡ suc (left - 1)
+counted left h = omega arith
+
+module _ (s : List ℕ) {front back : List ℕ} {left e : ℕ} {all : List (List ℕ)} (some : left ≡ 0 → ⊥) (f : front ≡ take e s) (b : back ≡ drop e s) where
+  pub record_given : records_from left s ≡ all → e ≡ record_end s 0 → all ≡ front ∷ records_from (left - 1) back
+  record_given v i =
+      sym v
+      ∙ ap (λ n. records_from n s) (counted left some)
+      ∙ records_turn s (left - 1) 0
+      ∙ ap₂ (λ x y. x ∷ records_from (left - 1) y) (upto s (record_end s 0) ∙ ap (λ k. take k s) (sym i) ∙ sym f) (ap (λ k. drop k s) (sym i) ∙ sym b)
+
+  pub name_given : {name : List ℕ} → names_from left s ≡ all → e ≡ name_end s 0 → name ≡ drop 1 front → all ≡ name ∷ names_from (left - 1) back
+  name_given v i g =
+      sym v
+      ∙ ap (λ n. names_from n s) (counted left some)
+      ∙ names_turn s (left - 1) 0
+      ∙ ap₂ (λ x y. x ∷ names_from (left - 1) y)
+      (sym (slice-drop s 0 (name_end s 0) 1) ∙ ap (drop 1) (upto s (name_end s 0) ∙ ap (λ k. take k s) (sym i) ∙ sym f) ∙ sym g)
+      (ap (λ k. drop k s) (sym i) ∙ sym b)
 
 -- how many octets they take, where so many are there, one name on
 pub sizes_turn : (s : List ℕ) (q left : ℕ) → 0 < left
@@ -182,33 +227,10 @@ names_slice s p {section} {names} {count} {end} e f g h =
     let z : 0 + k ≡ k = omega arith in
     ap (slice names 0) (h ∙ ap (λ (m : ℕ). min m (length names)) (sym z)) ∙ sym (cut_take names 0 k) ∙ ap₂ (λ (i : ℕ) (b : List ℕ). take (names_size i b) b) c n
 
--- one turn of a search among names
-
-module _ (s k : List ℕ) (q left : ℕ) where
-  -- at least one is left
-  names_left : 0 < left → member k (names_from left (drop q s)) ≡ member k (name_at s q ∷ names_from (left - 1) (drop (name_end s q) s))
-  names_left h =
-      let e : left ≡ suc (left - 1) = omega arith in
-      ap (λ (n : ℕ). member k (names_from n (drop q s))) e ∙ ap (member k) (names_turn s (left - 1) q)
-
-  pub name-here : 0 < left → same k (name_at s q) ≡ true → member k (names_from left (drop q s)) ≡ true
-  unfolding member any_of
-  name-here h e = names_left h ∙ rw e
-
-  pub name-later : 0 < left → same k (name_at s q) ≡ false → member k (names_from left (drop q s)) ≡ member k (names_from (left - 1) (drop (name_end s q) s))
-  unfolding member any_of
-  name-later h e = names_left h ∙ rw e
-
-  pub name-none : left ≤ 0 → member k (names_from left (drop q s)) ≡ false
-  unfolding member any_of names_from
-  name-none h =
-      let e : left ≡ 0 = omega arith in
-      rw e
-
 -- one turn of a search among records
 
 module _ {A : Type 0} (p : A → Bool) (i : ℕ) (x : A) (l : List A) where
-  pub first_here : p x ≡ true → first_from i p (x ∷ l) ≡ At i
+  pub first_here : p x ≡ true → first_from i p (x ∷ l) ≡ Some i
   unfolding first_from
   first_here e = rw (e, first_from)
 
@@ -216,42 +238,27 @@ module _ {A : Type 0} (p : A → Bool) (i : ℕ) (x : A) (l : List A) where
   unfolding first_from
   first_later e = rw (e, first_from)
 
-module _ (test : List ℕ → Bool) (s : List ℕ) (q i n : ℕ) where
-  infos_left : i < n → infos_from (n - i) (drop q s) ≡ info_in (record_at s q) ∷ infos_from (n - (i + 1)) (drop (record_end s q) s)
-  infos_left h =
-      let e : n - i ≡ suc (n - (i + 1)) = omega arith in
-      ap (λ (m : ℕ). infos_from m (drop q s)) e ∙ ap (map info_in) (records_turn s (n - (i + 1)) q)
+-- the first among the parts, as the library has it
+pub first_of : {A B : Type 0} (test : B → Bool) (part : A → B) (i : ℕ) (l : List A) → position_from (λ x. test (part x)) i l ≡ first_from i test (map part l)
+unfolding first_from
+first_of test part i [] = refl
+first_of test part i (x ∷ l) =
+    by_test (test (part x))
+    (λ e. rw e)
+    (λ e. rw e (first_of test part (i + 1) l ∙ ap (λ n. first_from n test (map part l)) (add-one i)))
 
-  pub found_here : i < n → test (info_in (record_at s q)) ≡ true → first_from i test (infos_from (n - i) (drop q s)) ≡ At i
-  found_here h e = ap (first_from i test) (infos_left h) ∙ first_here test i _ _ e
-
-  pub found-later : i < n → test (info_in (record_at s q)) ≡ false
-      → first_from i test (infos_from (n - i) (drop q s)) ≡ first_from (i + 1) test (infos_from (n - (i + 1)) (drop (record_end s q) s))
-  found-later h e =
-      ap (first_from i test) (infos_left h)
-      ∙ first_later test i _ _ e
-      ∙ ap (λ (j : ℕ). first_from j test (infos_from (n - (i + 1)) (drop (record_end s q) s))) (sym (add-one i))
-
-  pub found_nowhere : n ≤ i → first_from i test (infos_from (n - i) (drop q s)) ≡ Nothing
-  unfolding first_from records_from
-  found_nowhere h =
-      let e : n - i ≡ 0 = omega arith in
-      rw e
+pub length-records_of : (image : List ℕ) → length (records_of image) ≡ anchor_count image
+length-records_of image = ap length (records_of_lem image) ∙ length-records (anchor_count image) (drop (first_record image) image)
 
 -- one turn of the search for the signer
 
--- what is answered where no anchor further on is the signer
-abbrev pub missed : Bool → FoundSigner
-missed true = found.Unverified
-missed false = found.Unknown
-
-module _ (i : ℕ) (k : List ℕ) (ids : List (List ℕ)) (verdict wanted : List ℕ) (m : FoundSigner) where
-  pub signer-here : same k wanted ≡ true → eqb (octet verdict i) 1 ≡ true → signer_from i (k ∷ ids) verdict wanted m ≡ found.At i
+module _ (i : ℕ) (k : List ℕ) (ids : List (List ℕ)) (verdict wanted : List ℕ) (m : Result ℕ NoSigner) where
+  pub signer-here : same k wanted ≡ true → eqb (octet verdict i) 1 ≡ true → signer_from i (k ∷ ids) verdict wanted m ≡ Ok i
   unfolding signer_from
   signer-here e f = rw (e, f, signer_from)
 
   pub signer_unverified : same k wanted ≡ true → eqb (octet verdict i) 1 ≡ false
-      → signer_from i (k ∷ ids) verdict wanted m ≡ signer_from (suc i) ids verdict wanted found.Unverified
+      → signer_from i (k ∷ ids) verdict wanted m ≡ signer_from (suc i) ids verdict wanted (Err Unverified)
   unfolding signer_from
   signer_unverified e f = rw (e, f, signer_from)
 
@@ -259,34 +266,33 @@ module _ (i : ℕ) (k : List ℕ) (ids : List (List ℕ)) (verdict wanted : List
   unfolding signer_from
   signer-other e = rw (e, signer_from)
 
--- the same over the records left at place p
-module _ (s : List ℕ) (p left i : ℕ) (verdict wanted : List ℕ) (m : FoundSigner) where
-  abbrev pub signer_left : ℕ → ℕ → ℕ → FoundSigner → FoundSigner
-  signer_left p left i m = signer_from i (map identifier_in (records_from left (drop p s))) verdict wanted m
+-- the same among the records left: record r with identifier k stands before the rest
 
-  abbrev here : List ℕ
-  here = identifier_in (record_at s p)
+module _ (verdict wanted : List ℕ) (m : Result ℕ NoSigner) (i : ℕ) where
+  abbrev among : ℕ → List (List ℕ) → Result ℕ NoSigner
+  among i l = signer_from i (map identifier_in l) verdict wanted m
 
-  ids_left : 0 < left → signer_left p left i m ≡ signer_from i (here ∷ map identifier_in (records_from (left - 1) (drop (record_end s p) s))) verdict wanted m
-  ids_left h =
-      let e : left ≡ suc (left - 1) = omega arith in
-      ap (λ (n : ℕ). signer_left p n i m) e ∙ ap (λ (l : List (List ℕ)). signer_from i (map identifier_in l) verdict wanted m) (records_turn s (left - 1) p)
+  pub turn_none : {l : List (List ℕ)} → l ≡ [] → among i l ≡ m
+  unfolding signer_from
+  turn_none e = ap (among i) e
 
-  pub signer-found : 0 < left → same here wanted ≡ true → eqb (octet verdict i) 1 ≡ true → signer_left p left i m ≡ found.At i
-  signer-found h e f = ids_left h ∙ signer-here i _ _ verdict wanted m e f
+  module _ {l rest : List (List ℕ)} {r k : List ℕ} {n : ℕ} (s : l ≡ r ∷ rest) (p : n ≡ i) (o : k ≡ identifier_in r) where
+    one : among i l ≡ signer_from n (k ∷ map identifier_in rest) verdict wanted m
+    one = ap (among i) s ∙ ap₂ (λ n k. signer_from n (k ∷ map identifier_in rest) verdict wanted m) (sym p) (sym o)
 
-  pub signer_seen : 0 < left → same here wanted ≡ true → eqb (octet verdict i) 1 ≡ false
-      → signer_left p left i m ≡ signer_left (record_end s p) (left - 1) (i + 1) found.Unverified
-  signer_seen h e f = ids_left h ∙ signer_unverified i _ _ verdict wanted m e f ∙ rw (add-one i)
+    later : {j : ℕ} → j ≡ i + 1 → suc n ≡ j
+    later q = omega arith
 
-  pub signer-later : 0 < left → same here wanted ≡ false → signer_left p left i m ≡ signer_left (record_end s p) (left - 1) (i + 1) m
-  signer-later h e = ids_left h ∙ signer-other i _ _ verdict wanted m e ∙ rw (add-one i)
+    pub turn_found : true ≡ same k wanted → true ≡ eqb (octet verdict n) 1 → among i l ≡ Ok n
+    turn_found e f = one ∙ signer-here n _ _ verdict wanted m (sym e) (sym f)
 
-  pub signer-none : left ≤ 0 → signer_left p left i m ≡ m
-  unfolding signer_from records_from
-  signer-none h =
-      let e : left ≡ 0 = omega arith in
-      rw e
+    pub turn_unverified : {j : ℕ} → true ≡ same k wanted → false ≡ eqb (octet verdict n) 1 → j ≡ i + 1
+        → among i l ≡ signer_from j (map identifier_in rest) verdict wanted (Err Unverified)
+    turn_unverified e f q =
+        one ∙ signer_unverified n _ _ verdict wanted m (sym e) (sym f) ∙ ap (λ j. signer_from j (map identifier_in rest) verdict wanted (Err Unverified)) (later q)
+
+    pub turn_other : {j : ℕ} → false ≡ same k wanted → j ≡ i + 1 → among i l ≡ among j rest
+    turn_other e q = one ∙ signer-other n _ _ verdict wanted m (sym e) ∙ ap (λ j. among j rest) (later q)
 
 -- the key that is sought, its first octet read as 30
 

@@ -1,7 +1,7 @@
 -- 01, The store image: reading and writing it. Status 201 is "decode gives nothing".
-use Rattle.std.specs.Prelude.{ℕ, zero, suc, ◌-◌, Bool, true, false, ◌&&◌, ◌||◌, length, take, drop, leb, eqb}
+use Rattle.std.specs.Option.{option_map_or}
+use Rattle.std.specs.Prelude.{ℕ, zero, suc, ◌-◌, Bool, true, false, ◌&&◌, ◌||◌, length, take, drop, leb, eqb, Option, Some, None}
 use mathlib.Core.List.{List, [], ◌∷◌, ◌++◌, map, flat_map}
-use Rattle.std.proofs.Math.Option.{Option, none, some, Option-elim}
 use Rattle.octets.specs.Limits.{max_anchors, max_communities, max_name_octets, max_anchor_octets, max_number}
 use Rattle.octets.specs.Lists.{all_of}
 use Rattle.octets.specs.Octets.{distinct}
@@ -18,8 +18,8 @@ encode_name o = length o ∷ o
 
 -- number present, and the number: zero if absent
 unfoldable pub encode_number : Option ℕ → List ℕ
-encode_number none = 0 ∷ big_endian 8 0
-encode_number (some n) = 1 ∷ big_endian 8 n
+encode_number None = 0 ∷ big_endian 8 0
+encode_number (Some n) = 1 ∷ big_endian 8 n
 
 -- an anchor's record (01's term): "from its number present to the end of its TrustAnchorInfo"
 unfoldable pub encode_anchor : Anchor → List ℕ
@@ -46,24 +46,24 @@ Reader A = List ℕ → Option (A × List ℕ)
 
 module _ {A : Type 0} where
   abbrev pub found : A → Reader A
-  found x s = some (x, s)
+  found x s = Some (x, s)
 
   -- the rest of a reader, under a rule
   unfoldable pub provided : Bool → Reader A → Reader A
   provided true r s = r s
-  provided false r s = none
+  provided false r s = None
 
 module _ {A B : Type 0} where
   unfoldable pub pass_on : Option (A × List ℕ) → (A → Reader B) → Option (B × List ℕ)
-  pass_on none f = none
-  pass_on (some p) f = f p.0 p.1
+  pass_on None f = None
+  pass_on (Some p) f = f p.0 p.1
 
   abbrev pub ◌>>=◌ : Reader A → (A → Reader B) → Reader B
   ◌>>=◌ r f s = pass_on (r s) f
 
 -- n octets
 unfoldable pub read_octets : ℕ → Reader (List ℕ)
-read_octets n s = provided (leb n (length s)) (λ s. some (take n s, drop n s)) s
+read_octets n s = provided (leb n (length s)) (λ s. Some (take n s, drop n s)) s
 
 -- a number of so many octets
 unfoldable pub read_number : ℕ → Reader ℕ
@@ -86,7 +86,7 @@ read_device = do
 
 -- "number present (0 or 1), number (8 octets, at most 9223372036854775807, zero if absent)"
 unfoldable pub present_number : ℕ → ℕ → Option ℕ
-present_number present n = elim (eqb present 1) [ true ↦ some n | false ↦ none ]
+present_number present n = elim (eqb present 1) [ true ↦ Some n | false ↦ None ]
 
 unfoldable pub number_ok : ℕ → ℕ → Bool
 number_ok present n = leb present 1 && leb n max_number && (eqb present 1 || eqb n 0)
@@ -144,8 +144,8 @@ read_store = do
 
 -- "nothing behind them"
 unfoldable pub alone : {A : Type 0} → Option (A × List ℕ) → Option A
-alone none = none
-alone (some p) = elim p.1 [ [] ↦ some p.0 | x ∷ r ↦ none ]
+alone None = None
+alone (Some p) = elim p.1 [ [] ↦ Some p.0 | x ∷ r ↦ None ]
 
 -- the store of an image that breaks no rule (01's term: well-formed), else nothing: status 201
 unfoldable pub decode : List ℕ → Option Store
@@ -156,7 +156,7 @@ unfoldable pub name_ok : List ℕ → Bool
 name_ok o = leb 1 (length o) && leb (length o) max_name_octets
 
 unfoldable pub anchor_ok : Anchor → Bool
-anchor_ok a = Option-elim a.number true (λ n. leb n max_number) && storable a.info
+anchor_ok a = option_map_or (λ n. leb n max_number) a.number true && storable a.info
 
 unfoldable pub well_formed : Store → Bool
 well_formed σ =

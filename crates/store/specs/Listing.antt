@@ -1,7 +1,6 @@
 -- 01, Checked examples: the text that the listing program prints for an image.
-use Rattle.std.specs.Prelude.{ℕ, suc, ◌+◌, ◌/◌, ◌%◌, true, false, length, ltb, eqb}
+use Rattle.std.specs.Prelude.{ℕ, suc, ◌+◌, ◌/◌, ◌%◌, true, false, length, ltb, eqb, Option, Some, None}
 use mathlib.Core.List.{List, [], ◌∷◌, ◌++◌, map, flat_map}
-use Rattle.std.proofs.Math.Option.{Option, none, some}
 use Rattle.octets.specs.Ascii.{ascii}
 use Rattle.octets.specs.Number.{digits}
 use Rattle.anchor.specs.declared.AnchorRole.{AnchorRole}
@@ -30,8 +29,8 @@ newline = 10
 
 -- "number or -"
 unfoldable pub number_text : Option ℕ → List ℕ
-number_text none = ascii "-"
-number_text (some n) = decimal n
+number_text None = ascii "-"
+number_text (Some n) = decimal n
 
 -- "role (apex, management if it has constraints, else identity)"
 unfoldable pub role_text : AnchorRole → List ℕ
@@ -61,8 +60,8 @@ store_text σ =
     ++ flat_map (λ c. hex c ++ (newline ∷ [])) σ.communities)))
 
 unfoldable pub listing_of : Option Store → List ℕ
-listing_of none = ascii "refused 201\n"
-listing_of (some σ) = store_text σ
+listing_of None = ascii "refused 201\n"
+listing_of (Some σ) = store_text σ
 
 -- "The listing program reads an image"; a bad image prints "refused 201"
 unfoldable pub listing : List ℕ → List ℕ

@@ -1,6 +1,5 @@
 -- The steps of 01, After acceptance, on a store.
-use Rattle.std.specs.Prelude.{ℕ, List}
-use Rattle.std.proofs.Math.Option.{none, some}
+use Rattle.std.specs.Prelude.{ℕ, List, Some, None}
 use Rattle.store.specs.Store.{Anchor, Store}
 
 abbrev pub with_others : List Anchor → Store → Store
@@ -11,7 +10,7 @@ with_communities l σ = record { device = σ.device; apex = σ.apex; others = σ
 
 -- "appended without a number", and an anchor whose number is set
 abbrev pub unnumbered : List ℕ → Anchor
-unnumbered info = record { number = none; info = info }
+unnumbered info = record { number = None; info = info }
 
 abbrev pub numbered : ℕ → Anchor → Anchor
-numbered n a = record { number = some n; info = a.info }
+numbered n a = record { number = Some n; info = a.info }

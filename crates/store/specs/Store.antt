@@ -1,6 +1,5 @@
 -- 01, The store image: what an image holds.
-use Rattle.std.specs.Prelude.{ℕ, List, ◌∷◌, map}
-use Rattle.std.proofs.Math.Option.{Option}
+use Rattle.std.specs.Prelude.{ℕ, List, ◌∷◌, map, Option}
 use Rattle.rights.specs.Rights.{Rights, everything}
 use Rattle.anchor.specs.Info.{key_identifier, public_key, rights_of}
 

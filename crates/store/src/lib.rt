@@ -7,25 +7,20 @@ ghost use Rattle.octets.specs.Octets.{octet, same, member};
 ghost use Rattle.store.specs.Records.{records_of};
 ghost use Rattle.store.specs.Signer.{signer};
 ghost use Rattle.store.specs.Contract.Parts.{hw_type_in, serial_in, anchor_place, anchor_count, first_record, record_end, record_at, place_of, info_in, identifier_in};
-ghost use Rattle.store.specs.Contract.Parts.{number_in, number_of, community_place, community_count, community_octets, name_end, name_at, names_from, names_size};
+ghost use Rattle.store.specs.Contract.Parts.{number_in, community_place, community_count, community_octets, name_end, name_at, names_from, names_size};
 ghost use Rattle.store.specs.Contract.Parts.{is_sought, first_from, infos_from};
 
-// The signer among the anchors (01, Answers).
+mod items;
+
+pub use items::{Names, Records};
+
+// Why there is no signer among the anchors (01, Answers).
 #[derive(Clone, Copy)]
-pub enum FoundSigner {
-    // the position of the first anchor with the identifier and verdict 1
-    At(usize),
+pub enum NoSigner {
     // none of those that have the identifier has verdict 1
     Unverified,
     // no anchor has the identifier
     Unknown,
-}
-
-// An anchor's number, if it has one.
-#[derive(Clone, Copy)]
-pub enum Number {
-    Absent,
-    Is(u64),
 }
 
 // What an anchor is sought by.
@@ -36,32 +31,18 @@ pub enum Sought {
     TaggedPublicKey,
 }
 
-// The position of what is sought.
-#[derive(Clone, Copy)]
-pub enum Position {
-    At(usize),
-    Nothing,
-}
-
 // The octet at a place, 0 after the end.
 pub fn octet_at(s: &[u8], p: usize) -> usize
     ensures { (result ≡ octet s.now p) × (result < 256) }
 {
-    if p < s.len() {
-        return octets::wide(s[p]);
-    }
-    0
+    usize::from(s.get(p).copied().unwrap_or(0))
 }
 
 // The octets from place p on.
 fn after(s: &[u8], p: usize) -> &[u8]
     ensures { result.now ≡ drop p s.now }
 {
-    let n = s.len();
-    if p < n {
-        return &s[p..n];
-    }
-    &s[n..n]
+    s.get(p..).unwrap_or(&[])
 }
 
 pub fn hw_type(image: &[u8]) -> &[u8]
@@ -106,14 +87,8 @@ pub fn record_end(s: &[u8], p: usize) -> usize
     if n <= p {
         return n;
     }
-    if n - p < 11 {
-        return n;
-    }
     let size = octets::get_be(s, p + 9, 2) as usize;
-    if n - p - 11 < size {
-        return n;
-    }
-    p + 11 + size
+    n.min(p + 11 + size)
 }
 
 // The record at place p, as a part of the caller's slice.
@@ -128,15 +103,13 @@ pub fn record_place(image: &[u8], position: usize) -> usize
     ensures { result ≡ place_of image.now position }
 {
     let mut p = first_record(image);
-    let mut i = 0;
-    while i < position {
+    for _ in 0..position {
         p = record_end(image, p);
-        i += 1;
     }
     p
 }
 
-// The parts of a record.
+// The parts of a record, which is any octets: they are read with no fact about it, so a struct of it would only rename these three.
 pub fn info_of(row: &[u8]) -> &[u8]
     ensures { result.now ≡ info_in row.now }
 {
@@ -149,13 +122,13 @@ pub fn identifier_of(row: &[u8]) -> &[u8]
     anchor::key_identifier(info_of(row))
 }
 
-pub fn number_of(row: &[u8]) -> Number
-    ensures { number_of result ≡ number_in row.now }
+pub fn number_of(row: &[u8]) -> Option<u64>
+    ensures { result ≡ number_in row.now }
 {
     if octet_at(row, 0) == 1 {
-        return Number::Is(octets::get_be(row, 1, 8));
+        return Some(octets::get_be(row, 1, 8));
     }
-    Number::Absent
+    None
 }
 
 // Where the communities' count stands, and the count.
@@ -188,11 +161,7 @@ pub fn name_end(s: &[u8], p: usize) -> usize
     if n <= p {
         return n;
     }
-    let size = octets::wide(s[p]);
-    if n - p - 1 < size {
-        return n;
-    }
-    p + 1 + size
+    n.min(p + 1 + octet_at(s, p))
 }
 
 // The name at place p, as a part of the caller's slice.
@@ -207,10 +176,8 @@ fn names_end(s: &[u8], n: usize) -> usize
     ensures { result ≡ min (names_size n s.now) (length s.now) }
 {
     let mut p = 0;
-    let mut left = n;
-    while 0 < left {
+    for _ in 0..n {
         p = name_end(s, p);
-        left -= 1;
     }
     p
 }
@@ -219,16 +186,7 @@ fn names_end(s: &[u8], n: usize) -> usize
 pub fn has_name(s: &[u8], p: usize, n: usize, wanted: &[u8]) -> bool
     ensures { result ≡ member wanted.now (names_from n (drop p s.now)) }
 {
-    let mut q = p;
-    let mut more = n;
-    while 0 < more {
-        if octets::equal(wanted, name_at(s, q)) {
-            return true;
-        }
-        q = name_end(s, q);
-        more -= 1;
-    }
-    false
+    Names::new(s, p, n).any(|name| octets::equal(wanted, name))
 }
 
 // A TrustAnchorInfo is the one that is sought.
@@ -252,23 +210,14 @@ fn is_tagged(key: &[u8], wanted: &[u8]) -> bool
 }
 
 // The position of the first of the n records from place p on that is sought.
-pub fn find_anchor_from(s: &[u8], p: usize, n: usize, by: Sought, wanted: &[u8]) -> Position
+pub fn find_anchor_from(s: &[u8], p: usize, n: usize, by: Sought, wanted: &[u8]) -> Option<usize>
     ensures { result ≡ first_from 0 (is_sought by wanted.now) (infos_from n (drop p s.now)) }
 {
-    let mut q = p;
-    let mut i = 0;
-    while i < n {
-        if is_sought(info_of(record_at(s, q)), by, wanted) {
-            return Position::At(i);
-        }
-        q = record_end(s, q);
-        i += 1;
-    }
-    Position::Nothing
+    Records::new(s, p, n).position(|record| is_sought(info_of(record), by, wanted))
 }
 
 // The position of the anchor that is sought.
-pub fn find_anchor(image: &[u8], by: Sought, wanted: &[u8]) -> Position
+pub fn find_anchor(image: &[u8], by: Sought, wanted: &[u8]) -> Option<usize>
     ensures { result ≡ first_from 0 (is_sought by wanted.now) (map info_in (records_of image.now)) }
 {
     find_anchor_from(image, first_record(image), anchor_count(image), by, wanted)
@@ -282,29 +231,19 @@ fn is_verified(verdict: &[u8], position: usize) -> bool
 }
 
 // The signer: the first anchor with the identifier and verdict 1.
-pub fn find_signer(image: &[u8], verdict: &[u8], wanted: &[u8]) -> FoundSigner
+pub fn find_signer(image: &[u8], verdict: &[u8], wanted: &[u8]) -> Result<usize, NoSigner>
     ensures { result ≡ signer (map identifier_in (records_of image.now)) verdict.now wanted.now }
 {
-    let mut p = first_record(image);
-    let mut rest = anchor_count(image);
-    let mut i = 0;
-    let mut seen = false;
-    while 0 < rest {
-        if octets::equal(identifier_of(record_at(image, p)), wanted) {
+    let mut missed = NoSigner::Unknown;
+    let mut found = None;
+    for (i, record) in Records::of(image).enumerate() {
+        if octets::equal(identifier_of(record), wanted) {
             if is_verified(verdict, i) {
+                found = Some(i);
                 break;
             }
-            seen = true;
+            missed = NoSigner::Unverified;
         }
-        p = record_end(image, p);
-        i += 1;
-        rest -= 1;
     }
-    if 0 < rest {
-        return FoundSigner::At(i);
-    }
-    if seen {
-        return FoundSigner::Unverified;
-    }
-    FoundSigner::Unknown
+    found.ok_or(missed)
 }

@@ -1,4 +1,5 @@
 -- 02, E3: what the grammar charges is the element that lacks a part, or an identifier octet of the run that it reads.
+use Rattle.std.specs.Prelude.{Ok, Err}
 use Prim.Native.Nat.{ℕ, ◌<◌}
 use native.Mathlib.Omega.{arith}
 use mathlib.Core.Bool.{Bool, true, false, ◌&&◌, ◌||◌, and-eq-true_iff, true≢false}
@@ -11,10 +12,8 @@ use Rattle.octets.specs.Octets.{slice}
 use Rattle.octets.specs.Lists.{Among}
 use Rattle.octets.proofs.Lists.{by_test, among_one}
 use Rattle.der.specs.declared.Element.{Element}
-use Rattle.der.specs.declared.Fit.{Fit}
-use Rattle.der.specs.declared.Fit.TheVariants.{Fits, Breaks}
 use Rattle.der.specs.Element.{element_at, elements, root, constructed}
-use Rattle.der.specs.Fit.{held}
+use Rattle.der.specs.Fit.{held, Fit}
 use Rattle.der.specs.Check.{spans}
 use Rattle.der.specs.Identifier.{IdentifierOctet, own, of_member}
 use Rattle.der.proofs.Members.{among_first, among_later, member_is, run_of_one}
@@ -47,7 +46,7 @@ opens_constructed (many g) = opens_constructed g
 
 module _ (s : List ℕ) {X : Type 0} {o : ℕ} where
   -- such a syntax charges the element whose contents it reads
-  leaf_charges : (g : Syntax) (at stop outer : ℕ) → leaf g ≡ true → (outer ≡ o → X) → fit g s at stop outer ≡ Breaks o → X
+  leaf_charges : (g : Syntax) (at stop outer : ℕ) → leaf g ≡ true → (outer ≡ o → X) → fit g s at stop outer ≡ Err o → X
   unfolding fit leaf
   leaf_charges free at stop outer l f h = absurd (breaks≢fits (sym h))
   leaf_charges end at stop outer l f h = absurd (true≢false (sym l))
@@ -66,13 +65,13 @@ module _ (s : List ℕ) {X : Type 0} {o : ℕ} where
   first_charged at stop f l k = f (element_at s at stop) (among_first s at stop l) (own ((bounded s at stop refl).here ∙ k))
 
   by_element_lem : (at : ℕ) (room valid : Bool) (none there : Fit)
-      → (none ≡ Breaks o → X) → (room ≡ true → at ≡ o → X) → (valid ≡ true → there ≡ Breaks o → X) → by_element room at valid none there ≡ Breaks o → X
+      → (none ≡ Err o → X) → (room ≡ true → at ≡ o → X) → (valid ≡ true → there ≡ Err o → X) → by_element room at valid none there ≡ Err o → X
   by_element_lem at false valid none there f g k h = f h
   by_element_lem at true false none there f g k h = g refl (cc)
   by_element_lem at true true none there f g k h = k refl h
 
-  by_tag : (tag t : ℕ) (other there : Fit) → (other ≡ Breaks o → X) → (tag ≡ t → there ≡ Breaks o → X)
-      → elim (eqb tag t) [ false ↦ other | true ↦ there ] ≡ Breaks o → X
+  by_tag : (tag t : ℕ) (other there : Fit) → (other ≡ Err o → X) → (tag ≡ t → there ≡ Err o → X)
+      → ◌≡◌ {A = Fit} (elim (eqb tag t) [ false ↦ other | true ↦ there ]) (Err o) → X
   by_tag tag t other there f g h =
       by_test (eqb tag t)
       (λ q. g (eqb-true tag t q) (sym (on_true (eqb tag t) there other q) ∙ h))
@@ -86,7 +85,7 @@ module _ (s : List ℕ) {X : Type 0} {o : ℕ} where
       i e j (subst (IdentifierOctet s o) is d)
 
   pub fit_charges : (g : Syntax) (at stop outer : ℕ) → opens_constructed g ≡ true → (outer ≡ o → X)
-      → ((e : Element) → Among e (elements s at stop) → IdentifierOctet s o e → X) → fit g s at stop outer ≡ Breaks o → X
+      → ((e : Element) → Among e (elements s at stop) → IdentifierOctet s o e → X) → fit g s at stop outer ≡ Err o → X
   unfolding fit opens_constructed
   fit_charges free at stop outer c f i h = absurd (breaks≢fits (sym h))
   fit_charges end at stop outer c f i h =
@@ -120,7 +119,7 @@ module _ (s : List ℕ) {X : Type 0} {o : ℕ} where
   fit_charges (one g next) at stop outer c f i h =
       let e = element_at s at stop in
       let gn = (and-eq-true_iff (opens_constructed g) (opens_constructed next)).0 c in
-      by_element_lem at (ltb at stop) e.valid (Breaks outer) _
+      by_element_lem at (ltb at stop) e.valid (Err outer) _
       (λ k. f (cc))
       (λ r. first_charged at stop i (ltb-true at stop r))
       (λ v.
@@ -147,7 +146,7 @@ module _ (s : List ℕ) {X : Type 0} {o : ℕ} where
 -- octets by themselves, which one element should span
 module _ (d : ℕ) (s : List ℕ) where
   pub one_charges : {X : Type 0} {o : ℕ} → (length s ≡ 0 → o ≡ 0 → X) → (o < length s → IdentifierOctet s o (root s) → X)
-      → ((root s).valid ≡ true → o < length s → o ≡ (root s).stop → X) → spans d s 0 (length s) 0 ≡ Breaks o → X
+      → ((root s).valid ≡ true → o < length s → o ≡ (root s).stop → X) → spans d s 0 (length s) 0 ≡ Err o → X
   one_charges f g h =
       spans_charges d s 0 (length s) 0
       (λ l k. f (omega arith) (sym k))
@@ -157,7 +156,7 @@ module _ (d : ℕ) (s : List ℕ) where
       let w = valid_within s 0 (length s) refl v in
       h v (omega (arith, w.ends, n, k)) (sym k))
 
-  module _ (one : spans d s 0 (length s) 0 ≡ Fits) where
+  module _ (one : spans d s 0 (length s) 0 ≡ Ok tt) where
     pub one_run : elements s 0 (length s) ≡ root s ∷ []
     one_run =
         let e = spans_fits d s 0 (length s) 0 one in
@@ -169,7 +168,7 @@ module _ (d : ℕ) (s : List ℕ) where
         root-octet s (omega (arith, w))
 
     -- a syntax that reads the element
-    pub syntax_charges : (g : Syntax) → opens_constructed g ≡ true → {o : ℕ} → fit g s 0 (length s) 0 ≡ Breaks o → IdentifierOctet s o (root s)
+    pub syntax_charges : (g : Syntax) → opens_constructed g ≡ true → {o : ℕ} → fit g s 0 (length s) 0 ≡ Err o → IdentifierOctet s o (root s)
     syntax_charges g c {o} =
         fit_charges s g 0 (length s) 0 c
         (λ k. own ((bounded s 0 (length s) refl).here ∙ k))

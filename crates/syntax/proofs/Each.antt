@@ -1,4 +1,5 @@
 -- Laws of keeping rules (der, specs/Fit): what is known where a chain of rules is kept, and of the members of a run that a judge passed.
+use Rattle.std.specs.Prelude.{Ok, Err}
 use Prim.Native.Nat.{ℕ}
 use mathlib.Core.Bool.{Bool, true, false, ◌&&◌, false≢true}
 use mathlib.Core.List.{List, [], ◌∷◌, map}
@@ -6,9 +7,7 @@ use mathlib.Core.Path.{◌≡◌, refl, sym, ap, ap₂, ◌∙◌}
 use Rattle.octets.specs.Lists.{all_of, Among, first, later}
 use Rattle.octets.proofs.Lists.{both}
 use Rattle.der.specs.declared.Element.{Element}
-use Rattle.der.specs.declared.Fit.{Fit}
-use Rattle.der.specs.declared.Fit.TheVariants.{Fits, Breaks}
-use Rattle.der.specs.Fit.{and_then, held, kept, each_from, each}
+use Rattle.der.specs.Fit.{and_then, held, kept, each_from, each, Fit}
 use Rattle.der.proofs.Fits.{breaks≢fits, held_true}
 use Rattle.syntax.specs.Grammar.{by_element}
 
@@ -47,14 +46,14 @@ every_map f Q (x ∷ l) h = (h.0, every_map f Q l h.1)
 
 -- kept or not
 
-pub kept_fits : (f : Fit) → kept f ≡ true → f ≡ Fits
-kept_fits Fits e = refl
-kept_fits (Breaks o) e = absurd (false≢true e)
+pub kept_fits : (f : Fit) → kept f ≡ true → f ≡ Ok tt
+kept_fits (Ok _) e = refl
+kept_fits (Err o) e = absurd (false≢true e)
 
 pub kept_then : (f g : Fit) → kept (and_then f g) ≡ kept f && kept g
 unfolding and_then
-kept_then Fits g = refl
-kept_then (Breaks o) g = refl
+kept_then (Ok _) g = refl
+kept_then (Err o) g = refl
 
 pub kept-held : (at : ℕ) (b : Bool) → kept (held at b) ≡ b
 unfolding held
@@ -71,7 +70,7 @@ alike_if false x y u v p q = q refl
 pub alike_element : {b c : Bool} → b ≡ c → (i j : ℕ) (valid : Bool) (x y u v : Fit) → kept x ≡ kept u → (valid ≡ true → kept y ≡ kept v)
     → kept (by_element b i valid x y) ≡ kept (by_element c j valid u v)
 alike_element {b} {c} e i j valid x y u v p q =
-    rw e (alike_if c (elim valid [ false ↦ Breaks i | true ↦ y ]) x (elim valid [ false ↦ Breaks j | true ↦ v ]) u (λ r. alike_if valid y (Breaks i) v (Breaks j) q (λ g. refl)) (λ r. p))
+    rw e (alike_if c (elim valid [ false ↦ Err i | true ↦ y ]) x (elim valid [ false ↦ Err j | true ↦ v ]) u (λ r. alike_if valid y (Err i) v (Err j) q (λ g. refl)) (λ r. p))
 
 pub alike_then : (f g h k : Fit) → kept f ≡ kept h → kept g ≡ kept k → kept (and_then f g) ≡ kept (and_then h k)
 alike_then f g h k p q = kept_then f g ∙ ap₂ ◌&&◌ p q ∙ sym (kept_then h k)
@@ -80,10 +79,10 @@ pub alike_held : (i j : ℕ) {b c : Bool} → b ≡ c → kept (held i b) ≡ ke
 alike_held i j {b} {c} p = kept-held i b ∙ p ∙ sym (kept-held j c)
 
 -- a chain that is kept
-pub then_both : (f g : Fit) → and_then f g ≡ Fits → (f ≡ Fits) × (g ≡ Fits)
+pub then_both : (f g : Fit) → and_then f g ≡ Ok tt → (f ≡ Ok tt) × (g ≡ Ok tt)
 unfolding and_then
-then_both Fits g e = (refl, e)
-then_both (Breaks o) g e = absurd (breaks≢fits e)
+then_both (Ok _) g e = (refl, e)
+then_both (Err o) g e = absurd (breaks≢fits e)
 
 -- a run
 
@@ -97,8 +96,8 @@ module _ (judge : Element → Element → Fit) where
       (kept_then (held e.at e.valid) (judge former e) ∙ ap (λ (b : Bool). b && kept (judge former e)) (kept-held e.at e.valid))
 
   -- what the judge's answer on an element shows holds of every member
-  module _ (Q : Element → Type 0) (shows : (former e : Element) → e.valid ≡ true → judge former e ≡ Fits → Q e) where
-    every_from : (former : Element) (es : List Element) → each_from judge former es ≡ Fits → Every Q es
+  module _ (Q : Element → Type 0) (shows : (former e : Element) → e.valid ≡ true → judge former e ≡ Ok tt → Q e) where
+    every_from : (former : Element) (es : List Element) → each_from judge former es ≡ Ok tt → Every Q es
     unfolding each_from
     every_from former [] h = tt
     every_from former (e ∷ es) h =
@@ -106,14 +105,14 @@ module _ (judge : Element → Element → Fit) where
         let one = then_both (held e.at e.valid) (judge former e) two.0 in
         (shows former e (held_true e.at e.valid one.0) one.1, every_from e es two.1)
 
-    pub every_member : (es : List Element) → each judge es ≡ Fits → Every Q es
+    pub every_member : (es : List Element) → each judge es ≡ Ok tt → Every Q es
     unfolding each
     every_member [] h = tt
     every_member (e ∷ es) h = every_from e (e ∷ es) h
 
 -- a weaker judge passes what a judge passes
-module _ (judge weaker : Element → Element → Fit) (passes : (former e : Element) → judge former e ≡ Fits → weaker former e ≡ Fits) where
-  weaker_from : (former : Element) (es : List Element) → each_from judge former es ≡ Fits → each_from weaker former es ≡ Fits
+module _ (judge weaker : Element → Element → Fit) (passes : (former e : Element) → judge former e ≡ Ok tt → weaker former e ≡ Ok tt) where
+  weaker_from : (former : Element) (es : List Element) → each_from judge former es ≡ Ok tt → each_from weaker former es ≡ Ok tt
   unfolding each_from and_then
   weaker_from former [] h = refl
   weaker_from former (e ∷ es) h =
@@ -121,7 +120,7 @@ module _ (judge weaker : Element → Element → Fit) (passes : (former e : Elem
       let one = then_both (held e.at e.valid) (judge former e) two.0 in
       rw (one.0, passes former e one.1) (weaker_from e es two.1)
 
-  pub each_weaker : (es : List Element) → each judge es ≡ Fits → each weaker es ≡ Fits
+  pub each_weaker : (es : List Element) → each judge es ≡ Ok tt → each weaker es ≡ Ok tt
   unfolding each
   each_weaker [] h = refl
   each_weaker (e ∷ es) h = weaker_from e (e ∷ es) h

@@ -1,5 +1,6 @@
 -- Where a run of elements is as a syntax says, the first element with a tag is the syntax's field with that tag. The syntax itself says which field that is
 -- (`field_in`, which computes), so the law of a message's field is one line.
+use Rattle.std.specs.Prelude.{Ok}
 use Prim.Native.Nat.{ℕ, ◌≤◌}
 use native.Mathlib.Omega.{arith}
 use mathlib.Core.Bool.{Bool, true, false, not, ◌&&◌, true≢false, false≢true, and-eq-true_iff}
@@ -9,7 +10,6 @@ use lib.Dec.{leb, eqb}
 use borrow.Author.Tests.{le-leb, eqb-true, eqb-false, not-true}
 use Rattle.octets.proofs.Lists.{by_test}
 use Rattle.der.specs.declared.Element.{Element}
-use Rattle.der.specs.declared.Fit.TheVariants.{Fits}
 use Rattle.der.specs.Element.{absent, element_at, elements, with_tag}
 use Rattle.der.specs.Fit.{held}
 use Rattle.der.proofs.Fits.{then_fits, held_fits}
@@ -84,11 +84,11 @@ pub record Found (t : ℕ) (g : Syntax) (s : List ℕ) (at stop : ℕ) (e : Elem
   pub tag : e.tag ≡ t
   pub from : at ≤ e.at
   pub ends : e.stop ≤ stop
-  pub fits : fit g s e.start e.stop e.at ≡ Fits
+  pub fits : fit g s e.start e.stop e.at ≡ Ok tt
 
 -- that e is what a place says
 abbrev pub Placed : ℕ → List ℕ → ℕ → ℕ → ℕ → Element → Place → Type 0
-Placed t s at stop outer e (must g next) = Found t g s at stop e × (fit next s e.stop stop outer ≡ Fits)
+Placed t s at stop outer e (must g next) = Found t g s at stop e × (fit next s e.stop stop outer ≡ Ok tt)
 Placed t s at stop outer e (may g) = (e.valid ≡ true → Found t g s at stop e) × (e.valid ≡ false → e ≡ absent 0)
 Placed t s at stop outer e nowhere = e ≡ absent 0
 Placed t s at stop outer e untold = Unit {0}
@@ -98,7 +98,7 @@ absent_bad q g = false≢true (sym (ap (λ (x : Element). x.valid) q) ∙ g)
 
 -- an element that by itself is as a syntax of one tag says
 module _ (s : List ℕ) (at stop outer : ℕ) {e : Element} (q : e ≡ element_at s at stop) (b : e.valid ≡ true) where
-  pub chosen : (t : ℕ) (g : Syntax) → fit (optional t g end) s at e.stop outer ≡ Fits → Found t g s at stop e
+  pub chosen : (t : ℕ) (g : Syntax) → fit (optional t g end) s at e.stop outer ≡ Ok tt → Found t g s at stop e
   chosen t g h =
       let w = valid_within s at stop q b in
       optional_fits s at e.stop outer (sym (again s at stop q b)) t g end h
@@ -148,7 +148,7 @@ module _ (t : ℕ) (s : List ℕ) where
   only_placed (many g) next at stop outer f = tt
 
   -- the first element with the tag is where the syntax has it
-  pub placed : (g : Syntax) (at stop outer : ℕ) → fit g s at stop outer ≡ Fits → Placed t s at stop outer (with_tag t (elements s at stop)) (field_in t g)
+  pub placed : (g : Syntax) (at stop outer : ℕ) → fit g s at stop outer ≡ Ok tt → Placed t s at stop outer (with_tag t (elements s at stop)) (field_in t g)
   unfolding field_in
   placed free at stop outer h = tt
   placed end at stop outer h = with_tag_end t s at stop (end_fits s at stop outer h)
@@ -196,10 +196,10 @@ module _ (t : ℕ) (s : List ℕ) where
   placed (many g) at stop outer h = tt
 
 -- SEQUENCE OF and SET OF: every member is one
-pub each-found : (t : ℕ) (g : Syntax) (s : List ℕ) (at stop outer : ℕ) → fit (many (optional t g end)) s at stop outer ≡ Fits
+pub each-found : (t : ℕ) (g : Syntax) (s : List ℕ) (at stop outer : ℕ) → fit (many (optional t g end)) s at stop outer ≡ Ok tt
     → Every (Found t g s at stop) (elements s at stop)
 each-found t g s at stop outer h =
-    let P : Element → Type 0 = λ m. (m.valid ≡ true) × (fit (optional t g end) s m.at m.stop outer ≡ Fits) in
+    let P : Element → Type 0 = λ m. (m.valid ≡ true) × (fit (optional t g end) s m.at m.stop outer ≡ Ok tt) in
     every_weaken (λ m. Member s at stop m × P m) (Found t g s at stop)
     (λ m k.
     let c = chosen s m.at m.stop outer (k.0.own k.1.0).is k.1.0 t g k.1.1 in
@@ -209,10 +209,10 @@ each-found t g s at stop outer h =
 
 -- an element that was found, as the one element of its window
 pub as_only : (t : ℕ) (g : Syntax) (s : List ℕ) (at stop outer : ℕ) (e : Element) → Found t g s at stop e
-    → fit (one (optional t g end) end) s e.at e.stop outer ≡ Fits
+    → fit (one (optional t g end) end) s e.at e.stop outer ≡ Ok tt
 unfolding fit
 as_only t g s at stop outer e f =
-    let nothing : held e.stop (leb e.stop e.stop) ≡ Fits = held_fits e.stop (le-leb e.stop e.stop (omega arith)) in
+    let nothing : held e.stop (leb e.stop e.stop) ≡ Ok tt = held_fits e.stop (le-leb e.stop e.stop (omega arith)) in
     let m = met f.own.is f.own.valid in
     one_turn m outer (optional t g end) end
     ∙ then_fits _
@@ -230,8 +230,8 @@ alternative t (any_optional next) = free
 alternative t (many g) = free
 
 -- an element's tag tells which alternative it is
-pub choice_fits : (g : Syntax) (s : List ℕ) (outer t : ℕ) (e : Element) → Own s e → e.tag ≡ t → fit g s e.at e.stop outer ≡ Fits
-    → fit (alternative t g) s e.start e.stop e.at ≡ Fits
+pub choice_fits : (g : Syntax) (s : List ℕ) (outer t : ℕ) (e : Element) → Own s e → e.tag ≡ t → fit g s e.at e.stop outer ≡ Ok tt
+    → fit (alternative t g) s e.start e.stop e.at ≡ Ok tt
 unfolding alternative fit
 choice_fits free s outer t e o q h = refl
 choice_fits end s outer t e o q h = refl

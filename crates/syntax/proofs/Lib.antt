@@ -7,10 +7,8 @@ pub mod Rules
 pub mod Depth
 pub mod Moved
 pub mod Rows
-pub mod RowRules
 pub mod RowSteps
 pub mod Whole
-pub mod Cycle
 pub mod Ties
 pub mod TypeTable
 pub mod Once

@@ -1,4 +1,5 @@
 -- `fit` step by step: what stands at a place of a window, and what is known where it fits.
+use Rattle.std.specs.Prelude.{Ok, Err}
 use Prim.Native.Nat.{ℕ, ◌≤◌, ◌<◌}
 use native.Mathlib.Omega.{arith}
 use mathlib.Core.Bool.{true, false}
@@ -9,10 +10,8 @@ use borrow.Author.Tests.{ltb-true, ltb-false, lt-ltb, le-ltb, leb-true, eq-eqb, 
 use Rattle.octets.specs.Octets.{slice}
 use Rattle.octets.proofs.Lists.{by_test}
 use Rattle.der.specs.declared.Element.{Element}
-use Rattle.der.specs.declared.Fit.{Fit}
-use Rattle.der.specs.declared.Fit.TheVariants.{Fits, Breaks}
 use Rattle.der.specs.Element.{element_at, elements}
-use Rattle.der.specs.Fit.{and_then, held}
+use Rattle.der.specs.Fit.{and_then, held, Fit}
 use Rattle.syntax.specs.Grammar.{Rule, obeyed, Syntax, end, obeys, optional, one, any_optional, many, by_element, fit}
 use Rattle.der.proofs.Elements.{valid_within}
 use Rattle.der.proofs.Bools.{on_true, on_false}
@@ -41,7 +40,7 @@ module _ (s : List ℕ) (at stop outer : ℕ) where
     unfolding fit
     optional_end t g next = on_false (ltb at stop) _ _ (le-ltb at stop l)
 
-    pub one_end : (g next : Syntax) → fit (one g next) s at stop outer ≡ Breaks outer
+    pub one_end : (g next : Syntax) → fit (one g next) s at stop outer ≡ Err outer
     unfolding fit
     one_end g next = on_false (ltb at stop) _ _ (le-ltb at stop l)
 
@@ -50,24 +49,24 @@ module _ (s : List ℕ) (at stop outer : ℕ) where
     any_end next = on_false (ltb at stop) _ _ (le-ltb at stop l)
 
   module _ {e : Element} (q : e ≡ element_at s at stop) (l : at < stop) (b : e.valid ≡ false) where
-    at_broken : (x y : Fit) → by_element (ltb at stop) at (element_at s at stop).valid x y ≡ Breaks at
-    at_broken x y = on_true (ltb at stop) _ x (lt-ltb at stop l) ∙ on_false (element_at s at stop).valid y (Breaks at) (rw q at b)
+    at_broken : (x y : Fit) → by_element (ltb at stop) at (element_at s at stop).valid x y ≡ Err at
+    at_broken x y = on_true (ltb at stop) _ x (lt-ltb at stop l) ∙ on_false (element_at s at stop).valid y (Err at) (rw q at b)
 
-    pub optional_broken : (t : ℕ) (g next : Syntax) → fit (optional t g next) s at stop outer ≡ Breaks at
+    pub optional_broken : (t : ℕ) (g next : Syntax) → fit (optional t g next) s at stop outer ≡ Err at
     unfolding fit
     optional_broken t g next = at_broken _ _
 
-    pub one_broken : (g next : Syntax) → fit (one g next) s at stop outer ≡ Breaks at
+    pub one_broken : (g next : Syntax) → fit (one g next) s at stop outer ≡ Err at
     unfolding fit
     one_broken g next = at_broken _ _
 
-    pub any_broken : (next : Syntax) → fit (any_optional next) s at stop outer ≡ Breaks at
+    pub any_broken : (next : Syntax) → fit (any_optional next) s at stop outer ≡ Err at
     unfolding fit
     any_broken next = at_broken _ _
 
 module _ {s : List ℕ} {at stop : ℕ} {e : Element} (m : Met s at stop e) where
   pub at_met : (x y : Fit) → by_element (ltb at stop) at (element_at s at stop).valid x y ≡ y
-  at_met x y = on_true (ltb at stop) _ x (lt-ltb at stop m.room) ∙ on_true (element_at s at stop).valid y (Breaks at) (rw m.is at m.valid)
+  at_met x y = on_true (ltb at stop) _ x (lt-ltb at stop m.room) ∙ on_true (element_at s at stop).valid y (Err at) (rw m.is at m.valid)
 
   module _ (outer t : ℕ) (g next : Syntax) where
     pub optional_other : (e.tag ≡ t → ⊥) → fit (optional t g next) s at stop outer ≡ fit next s at stop outer
@@ -90,10 +89,10 @@ module _ {s : List ℕ} {at stop : ℕ} {e : Element} (m : Met s at stop e) wher
 -- where it fits: the ways through
 
 module _ (s : List ℕ) (at stop outer : ℕ) {e : Element} (q : e ≡ element_at s at stop) where
-  pub optional_fits : {P : Type 0} (t : ℕ) (g next : Syntax) → fit (optional t g next) s at stop outer ≡ Fits
-      → (stop ≤ at → fit next s at stop outer ≡ Fits → P)
-      → (at < stop → e.valid ≡ true → eqb e.tag t ≡ false → fit next s at stop outer ≡ Fits → P)
-      → (at < stop → e.valid ≡ true → eqb e.tag t ≡ true → fit g s e.start e.stop at ≡ Fits → fit next s e.stop stop outer ≡ Fits → P)
+  pub optional_fits : {P : Type 0} (t : ℕ) (g next : Syntax) → fit (optional t g next) s at stop outer ≡ Ok tt
+      → (stop ≤ at → fit next s at stop outer ≡ Ok tt → P)
+      → (at < stop → e.valid ≡ true → eqb e.tag t ≡ false → fit next s at stop outer ≡ Ok tt → P)
+      → (at < stop → e.valid ≡ true → eqb e.tag t ≡ true → fit g s e.start e.stop at ≡ Ok tt → fit next s e.stop stop outer ≡ Ok tt → P)
       → P
   optional_fits t g next h none other here =
       by_test (ltb at stop)
@@ -112,10 +111,10 @@ module _ (s : List ℕ) (at stop outer : ℕ) {e : Element} (q : e ≡ element_a
 
   pub record First (g next : Syntax) : Type 0 where
     pub valid : e.valid ≡ true
-    pub alone : fit g s at e.stop outer ≡ Fits
-    pub rest : fit next s e.stop stop outer ≡ Fits
+    pub alone : fit g s at e.stop outer ≡ Ok tt
+    pub rest : fit next s e.stop stop outer ≡ Ok tt
 
-  pub one_fits : (g next : Syntax) → fit (one g next) s at stop outer ≡ Fits → First g next
+  pub one_fits : (g next : Syntax) → fit (one g next) s at stop outer ≡ Ok tt → First g next
   one_fits g next h =
       by_test (ltb at stop)
       (λ r.
@@ -127,21 +126,21 @@ module _ (s : List ℕ) (at stop outer : ℕ) {e : Element} (q : e ≡ element_a
       (λ r. absurd (breaks≢fits (sym (one_end s at stop outer (ltb-false at stop r) g next) ∙ h)))
 
 module _ (s : List ℕ) (at stop outer : ℕ) where
-  pub end_fits : fit end s at stop outer ≡ Fits → stop ≤ at
+  pub end_fits : fit end s at stop outer ≡ Ok tt → stop ≤ at
   unfolding fit
   end_fits h = leb-true stop at (held_true at (leb stop at) h)
 
-  pub obeys_fits : (r : Rule) (g : Syntax) → fit (obeys r g) s at stop outer ≡ Fits → (fit g s at stop outer ≡ Fits) × (obeyed r (slice s at stop) ≡ true)
+  pub obeys_fits : (r : Rule) (g : Syntax) → fit (obeys r g) s at stop outer ≡ Ok tt → (fit g s at stop outer ≡ Ok tt) × (obeyed r (slice s at stop) ≡ true)
   unfolding fit
   obeys_fits r g h =
       let two = then_both (fit g s at stop outer) (held outer (obeyed r (slice s at stop))) h in
       (two.0, held_true outer (obeyed r (slice s at stop)) two.1)
 
-  pub many_fits : (g : Syntax) → fit (many g) s at stop outer ≡ Fits
-      → Every (λ m. (m.valid ≡ true) × (fit g s m.at m.stop outer ≡ Fits)) (elements s at stop)
+  pub many_fits : (g : Syntax) → fit (many g) s at stop outer ≡ Ok tt
+      → Every (λ m. (m.valid ≡ true) × (fit g s m.at m.stop outer ≡ Ok tt)) (elements s at stop)
   unfolding fit
   many_fits g h =
-      every_member (λ former m. fit g s m.at m.stop outer) (λ m. (m.valid ≡ true) × (fit g s m.at m.stop outer ≡ Fits))
+      every_member (λ former m. fit g s m.at m.stop outer) (λ m. (m.valid ≡ true) × (fit g s m.at m.stop outer ≡ Ok tt))
       (λ former m b f. (b, f))
       (elements s at stop)
       h

@@ -1,5 +1,6 @@
 -- An element by itself: what status 1's check and a syntax say of an element in the octets s they say of its octets alone.
 -- (Places in the part of s from a on are a less than in s.)
+use Rattle.std.specs.Prelude.{Ok, Err}
 use Prim.Native.Nat.{ℕ, zero, suc, ◌+◌, ◌-◌, ◌≤◌, ◌<◌}
 use native.Mathlib.Omega.{arith}
 use mathlib.Core.Bool.{Bool, true, false, not, ◌&&◌, ◌||◌}
@@ -14,11 +15,9 @@ use Rattle.octets.specs.Number.{number}
 use Rattle.octets.proofs.Lists.{by_test}
 use Rattle.octets.proofs.Parts.{length-slice, octet-slice, slice-none}
 use Rattle.der.specs.declared.Element.{Element}
-use Rattle.der.specs.declared.Fit.{Fit}
-use Rattle.der.specs.declared.Fit.TheVariants.{Fits, Breaks}
 use Rattle.der.specs.Element.{length_at, length_shortest, contents_at, element_at, elements, encoding, contents, inside, constructed}
 use Rattle.der.specs.Contents.{contents_ok}
-use Rattle.der.specs.Fit.{and_then, kept, each}
+use Rattle.der.specs.Fit.{and_then, kept, each, Fit}
 use Rattle.der.specs.Check.{sorted_in, der, spans}
 use Rattle.der.proofs.Header.{Header, header_or_not, element_is, element-absent, short_form, indefinite_form}
 use Rattle.der.proofs.Checks.{member_fit}
@@ -234,7 +233,7 @@ module _ (s : List ℕ) (a b : ℕ) (ab : a ≤ b) (bs : b ≤ length s) where
       let e = element_at (slice s a b) i j in
       ap (λ (x : Element).
       kept
-      (by_element (ltb (a + i) (a + j)) (a + i) x.valid (Breaks outer)
+      (by_element (ltb (a + i) (a + j)) (a + i) x.valid (Err outer)
       (and_then (fit g s (a + i) x.stop outer) (fit next s x.stop (a + j) outer))))
       (element-moved i j jb)
       ∙ alike_element (ltb-moved a i j) (a + i) i e.valid _ _ _ _ refl
@@ -276,7 +275,7 @@ module _ (s : List ℕ) (e : Element) (o : Own s e) where
       ∙ ap₂ (element_at s) start ends
       ∙ sym o.is
 
-  pub fits_alone : (g : Syntax) (outer : ℕ) → fit g s e.at e.stop outer ≡ Fits → fit g (encoding s e) 0 (length (encoding s e)) 0 ≡ Fits
+  pub fits_alone : (g : Syntax) (outer : ℕ) → fit g s e.at e.stop outer ≡ Ok tt → fit g (encoding s e) 0 (length (encoding s e)) 0 ≡ Ok tt
   fits_alone g outer h =
       let k = at_stop in
       let start : e.at + 0 ≡ e.at = omega arith in
@@ -287,7 +286,7 @@ module _ (s : List ℕ) (e : Element) (o : Own s e) where
       ∙ ap₂ (λ (x y : ℕ). kept (fit g s x y outer)) start ends
       ∙ ap kept h))
 
-  pub spans-alone : (d : ℕ) → der d s e ≡ Fits → spans d (encoding s e) 0 (length (encoding s e)) 0 ≡ Fits
+  pub spans-alone : (d : ℕ) → der d s e ≡ Ok tt → spans d (encoding s e) 0 (length (encoding s e)) 0 ≡ Ok tt
   spans-alone d h =
       let k = at_stop in
       let w = own_within s e o in

@@ -160,10 +160,6 @@ module _ (s : List ℕ) {at stop : ℕ} {e : Element} where
   pub expected : {t : ℕ} → e ≡ element_at s at stop → e.tag ≡ t → IfYes e.valid (Tagged s at stop t e)
   expected q n = record { holds = λ b. record { is = q; valid = b; tag = n } }
 
-  pub type_read : IfYes e.valid (Tagged s at stop 0x06 e) → {k : List ℕ} {r : Bool} → k ≡ contents s e → r ≡ oid_ok k → r ≡ true
-      → IfYes e.valid (TypeAt s at stop e)
-  type_read h q o n = record { holds = λ b. record { tagged = h.holds b; oid = sym (o ∙ ap oid_ok q) ∙ n } }
-
 -- a member of a list, whose contents conform
 pub member_on : {d : ℕ} {g : Syntax} {v : List ℕ} {at stop : ℕ} {e : Element} → Tagged v at stop 0x30 e → Conforms d g v e.start e.stop
     → Conforms (suc d) (many (tagged 0x30 g)) v e.stop stop → Conforms (suc d) (many (tagged 0x30 g)) v at stop

@@ -1,17 +1,19 @@
--- The table's rows: each names only rows above it, by one test over all of them, so a row stands for what its kind makes of the rows that it names.
-use Prim.Native.Nat.{ℕ, zero, suc, ◌+◌, ◌-◌, ◌≤◌, ◌<◌}
+-- The table's rows: each names only rows above it, by one test over all of them, so a row stands for what it makes of the rows that it names.
+use Rattle.std.specs.Prelude.{Ok}
+use Prim.Native.Nat.{ℕ, zero, suc, ◌≤◌, ◌<◌}
 use native.Mathlib.Omega.{arith}
 use mathlib.Core.Bool.{Bool, true, ◌&&◌, and-eq-true_iff}
 use mathlib.Core.List.{List}
 use mathlib.Core.Path.{◌≡◌, refl, sym, ap, ap₂, ◌∙◌}
-use lib.Dec.{leb, eqb}
-use borrow.Author.Tests.{leb-true, eqb-true, eqb-false}
+use lib.Dec.{ltb, eqb}
+use lib.ListN.{get_or}
+use borrow.Author.Tests.{ltb-true, eqb-true, eqb-false}
 use Rattle.octets.proofs.Lists.{by_test}
-use Rattle.der.specs.declared.Fit.TheVariants.{Fits}
 use Rattle.syntax.specs.declared.row.Row.{Row}
-use Rattle.syntax.specs.Grammar.{free, end, fit}
+use Rattle.syntax.specs.declared.row.Row.TheVariants.{Free, End, Many, Obeys, Field}
+use Rattle.syntax.specs.Grammar.{Syntax, free, end, many, obeys, fit}
 use Rattle.syntax.specs.Contract.Table.{count, rows}
-use Rattle.syntax.specs.Contract.Rows.{row_at, row_syntax, grown, grammar_of, RowIs}
+use Rattle.syntax.specs.Contract.Rows.{row_at, rule_of, field_syntax, row_syntax, grown, grammar_of, Names, RowIs}
 
 -- a test at each number below n, and what it shows at one of them
 unfoldable pub every_below : (ℕ → Bool) → ℕ → Bool
@@ -28,18 +30,34 @@ every_below_lem f (suc n) e k l =
     (λ q. every_below_lem f n h.1 k (omega (arith, eqb-false k n q)))
 
 -- each row names only rows above it, by one test over all of them
-names_above : ℕ → Bool
-names_above n =
-    let row = row_at rows n in
-    leb row.body (n - 1) && (leb row.next (n - 1) && leb 1 (n + (1 - row.kind)))
+names_above : ℕ → Row → Bool
+names_above n (Many body) = ltb body n
+names_above n (Obeys rule body) = ltb body n
+names_above n (Field kind tag body next) = ltb body n && ltb next n
+names_above n Free = true
+names_above n End = true
 
-above : (n : ℕ) → n < count → ((row_at rows n).body ≤ n - 1) × (((row_at rows n).next ≤ n - 1) × (1 ≤ n + (1 - (row_at rows n).kind)))
+names_lem : (n : ℕ) (row : Row) → names_above n row ≡ true → Names n row
+unfolding names_above
+names_lem n (Many body) e = ltb-true body n e
+names_lem n (Obeys rule body) e = ltb-true body n e
+names_lem n (Field kind tag body next) e = let h = (and-eq-true_iff (ltb body n) (ltb next n)).0 e in (ltb-true body n h.0, ltb-true next n h.1)
+names_lem n Free e = tt
+names_lem n End e = tt
+
+above : (n : ℕ) → n < count → Names n (row_at n)
 unfolding rows every_below names_above
-above n l =
-    let row = row_at rows n in
-    let h = (and-eq-true_iff (leb row.body (n - 1)) _).0 (every_below_lem names_above count refl n l) in
-    let k = (and-eq-true_iff (leb row.next (n - 1)) _).0 h.1 in
-    (leb-true row.body (n - 1) h.0, (leb-true row.next (n - 1) k.0, leb-true 1 (n + (1 - row.kind)) k.1))
+above n l = names_lem n (row_at n) (every_below_lem (λ k. names_above k (row_at k)) count refl n l)
+
+-- a row stands for the same, where those that it names do
+module _ (o : List ℕ) (g h : ℕ → Syntax) (n : ℕ) (same : (m : ℕ) → m < n → g m ≡ h m) where
+  row_alike : (row : Row) → Names n row → row_syntax o g row ≡ row_syntax o h row
+  unfolding row_syntax
+  row_alike (Many body) l = ap many (same body l)
+  row_alike (Obeys rule body) l = ap (obeys (rule_of rule o)) (same body l)
+  row_alike (Field kind tag body next) l = ap₂ (field_syntax kind tag) (same body l.0) (same next l.1)
+  row_alike Free l = refl
+  row_alike End l = refl
 
 -- more fuel changes nothing
 
@@ -53,40 +71,28 @@ step : (f g : ℕ) (o : List ℕ) → ((m : ℕ) → m ≤ f → m ≤ g → m <
 unfolding grown
 step f g o ih zero h k l = refl
 step f g o ih (suc n) h k l =
-    let row = row_at rows (suc n) in
-    let a = above (suc n) l in
-    ap₂ (row_syntax row.kind row.argument o)
-    (ih row.body (omega arith) (omega arith) (omega arith))
-    (ih row.next (omega arith) (omega arith) (omega arith))
+    row_alike o (grown f o) (grown g o) (suc n) (λ m b. ih m (omega arith) (omega arith) (omega arith)) (row_at (suc n)) (above (suc n) l)
 
 enough : (f g : ℕ) (o : List ℕ) (n : ℕ) → n ≤ f → n ≤ g → n < count → grown f o n ≡ grown g o n
 enough zero g o n h k l = let z : n ≡ 0 = omega arith in rw z (grown_first zero o ∙ sym (grown_first g o))
 enough (suc f) zero o n h k l = let z : n ≡ 0 = omega arith in rw z (grown_first (suc f) o ∙ sym (grown_first zero o))
 enough (suc f) (suc g) o n h k l = step f g o (enough f g o) n h k l
 
-row_is : (n : ℕ) → n < count → RowIs n (row_at rows n)
+row_is : (n : ℕ) → n < count → RowIs n (row_at n)
 unfolding rows row_syntax grown
-row_is zero l = record { stands = λ o. refl; lower_body = omega arith; lower_next = omega arith; first_free = omega arith }
+row_is zero l = record { stands = λ o. refl; names = tt }
 row_is (suc n) l =
-    let row = row_at rows (suc n) in
-    let a = above (suc n) l in
     record {
-      stands =
-          λ o.
-          ap₂ (row_syntax row.kind row.argument o)
-          (enough n row.body o row.body (omega arith) (omega arith) (omega arith))
-          (enough n row.next o row.next (omega arith) (omega arith) (omega arith));
-      lower_body = a.0;
-      lower_next = a.1.0;
-      first_free = a.1.1;
+      stands = λ o. row_alike o (grown n o) (grammar_of o) (suc n) (λ m b. enough n m o m (omega arith) (omega arith) (omega arith)) (row_at (suc n)) (above (suc n) l);
+      names = above (suc n) l;
     }
 
 -- a row of the table, as the code reads it
-pub row_read : {table : List ℕ} {n : ℕ} {row : Row} → table ≡ rows → n < count → row ≡ row_at table n → RowIs n row
+pub row_read : {table : List Row} {n : ℕ} {row : Row} → table ≡ rows → n < count → row ≡ get_or table n Free → RowIs n row
 row_read {n = n} t l r = rw (r, t) (row_is n l)
 
 -- the first row is free
-pub first_fits : (o : List ℕ) {n : ℕ} (s : List ℕ) (at stop outer : ℕ) → n ≡ 0 → fit (grammar_of o n) s at stop outer ≡ Fits
+pub first_fits : (o : List ℕ) {n : ℕ} (s : List ℕ) (at stop outer : ℕ) → n ≡ 0 → fit (grammar_of o n) s at stop outer ≡ Ok tt
 unfolding grown fit
 first_fits o s at stop outer z = ap (λ (r : ℕ). fit (grammar_of o r) s at stop outer) z
 

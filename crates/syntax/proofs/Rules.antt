@@ -1,4 +1,4 @@
--- RFC 5934: a SeqNumber is at most 9223372036854775807.
+-- The rules of a window as a whole: a SeqNumber (RFC 5934) is at most 9223372036854775807, and NULL is empty.
 use Prim.Native.Nat.{ℕ, suc, ◌+◌, ◌-◌, ◌*◌, ◌^◌, ◌≤◌, ◌<◌}
 use native.Mathlib.Nat.{lt_of_lt_of_le, mul-le-mul_left, pow-le-pow_right}
 use native.Mathlib.Omega.{arith}
@@ -6,13 +6,19 @@ use mathlib.Core.Bool.{Bool, true, false, ◌&&◌, and-eq-true_iff}
 use mathlib.Core.List.{List, [], ◌∷◌}
 use mathlib.Core.Path.{◌≡◌, refl, sym}
 use lib.ListN.{length, drop}
-use lib.Dec.{leb, ltb, lit<, lit≤}
-use borrow.Author.Tests.{leb-true, ltb-true, le-leb}
+use lib.Dec.{leb, ltb, eqb, lit<, lit≤}
+use borrow.Author.Tests.{leb-true, ltb-true, le-leb, ne_eqb}
 use Rattle.octets.specs.Limits.{max_number}
-use Rattle.octets.specs.Octets.{Octets, octet, slice}
+use Rattle.octets.specs.Octets.{Octets, octet, slice, same}
 use Rattle.octets.specs.Number.{number_from, number}
 use Rattle.octets.proofs.Number.{number-below, octets_take, octets_drop}
 use Rattle.syntax.specs.Grammar.{obeyed, seq_number}
+
+-- NULL
+pub same_none : (o : List ℕ) → same o [] ≡ eqb (length o) 0
+unfolding same
+same_none [] = refl
+same_none (x ∷ o) = sym (ne_eqb (length (x ∷ o)) 0 (λ z. omega arith))
 
 -- 128 times seven more octets is 2 ^ 63
 below : (x : ℕ) (o : List ℕ) → Octets o → x < 128 → length o ≤ 7 → number_from x o ≤ max_number

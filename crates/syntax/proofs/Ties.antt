@@ -18,7 +18,7 @@ use Rattle.syntax.specs.Asn.{ContentTypeConstraint, CMSContentConstraints, OneSi
 use Rattle.syntax.specs.Types.{syntax_of}
 use Rattle.syntax.specs.Contract.Forms.{form_syntax, attribute_syntax}
 use Rattle.syntax.specs.Contract.Table.{rows, message_row, form_row, attribute_row}
-use Rattle.syntax.specs.Contract.Rows.{rule_of, row_syntax, grown, grammar_of}
+use Rattle.syntax.specs.Contract.Rows.{rule_of, field_syntax, row_syntax, grown, grammar_of}
 
 types_are : (o : List ℕ) → map (grammar_of o)
     (3 ∷ 5 ∷ 9 ∷ 12 ∷ 16 ∷ 28 ∷ 30 ∷ 37 ∷ 38 ∷ 48 ∷ 49 ∷ 52 ∷ 54 ∷ 59 ∷ 63 ∷ 71 ∷ 74 ∷ 80 ∷ 85 ∷ 87 ∷ 92 ∷ 93 ∷ 96 ∷ 104 ∷ 107 ∷ 112 ∷ 114 ∷ 117 ∷ 120 ∷ 123 ∷ 127 ∷ 128 ∷ [])
@@ -30,18 +30,18 @@ types_are : (o : List ℕ) → map (grammar_of o)
     ∷ CommunityUpdates ∷ TAMPCommunityUpdate ∷ SequenceNumberAdjust ∷ AttrConstraint ∷ AttrConstraintList ∷ ContentTypeConstraint
     ∷ CMSContentConstraints ∷ OneSignedData
     ∷ []
-unfolding rows rule_of row_syntax grown
+unfolding rows rule_of field_syntax row_syntax grown
 types_are o = refl
 
 pub message_is : (o : List ℕ) (kind : TampType) → grammar_of o (message_row kind) ≡ syntax_of kind
-unfolding rows rule_of row_syntax grown syntax_of
+unfolding rows rule_of field_syntax row_syntax grown syntax_of
 message_is o StatusQuery = refl
 message_is o Update = refl
 message_is o CommunityUpdate = refl
 message_is o SeqNumAdjust = refl
 
 pub form_is : (f : Form) → grammar_of id_signed_data (form_row f) ≡ form_syntax f
-unfolding rows rule_of row_syntax grown form_syntax
+unfolding rows rule_of field_syntax row_syntax grown form_syntax
 form_is form.ContentInfo = refl
 form_is form.ContentInfoSignedData = refl
 form_is form.SignedData = refl
@@ -52,7 +52,7 @@ form_is form.CMSContentConstraints = refl
 form_is (form.Message kind) = message_is id_signed_data kind
 
 pub attribute_is : (o : List ℕ) (f : AttributeForm) → grammar_of o (attribute_row f) ≡ attribute_syntax f o
-unfolding rows rule_of row_syntax grown attribute_syntax
+unfolding rows rule_of field_syntax row_syntax grown attribute_syntax
 attribute_is o attribute.ContentType = refl
 attribute_is o attribute.MessageDigest = refl
 attribute_is o attribute.Other = refl

@@ -1,33 +1,32 @@
 -- 01, "eContentType isn't one of the four": the constant table of the TAMP types, and one rule that all of its rows keep, by one test over them.
-use Prim.Native.Nat.{ℕ, suc, ◌+◌, ◌*◌, ◌≤◌, ◌<◌}
-use native.Mathlib.Numerals.{add-one}
+use Rattle.std.specs.Prelude.{Option, Some, None}
+use Rattle.std.specs.List.{find}
+use Rattle.std.specs.Option.{option_map}
+use Prim.Native.Nat.{ℕ, ◌<◌}
 use native.Mathlib.Omega.{arith}
 use mathlib.Core.Bool.{Bool, true, false, not, ◌&&◌, ◌||◌, and-eq-true_iff, true≢false}
-use mathlib.Core.List.{List, [], ◌∷◌}
+use mathlib.Core.List.{List, [], ◌∷◌, map}
 use mathlib.Core.Logic.{◌↔◌}
 use mathlib.Core.Path.{◌≡◌, refl, sym, ap, ◌∙◌}
-use lib.ListN.{drop, drop_of_length-le, get_or-eq_default}
-use lib.Seq.{drop-cons}
 use lib.Dec.{eqb}
-use borrow.Author.Tests.{eqb-true, eqb-false}
-use Rattle.octets.specs.Octets.{slice, same}
+use borrow.Author.Tests.{eqb-true}
+use Rattle.octets.specs.Octets.{same}
 use Rattle.octets.specs.Number.{digits}
 use Rattle.octets.proofs.Lists.{by_test, same→≡, same_refl}
 use Rattle.der.specs.Oid.{arc, arcs, oid}
 use Rattle.syntax.specs.declared.TampType.{TampType}
 use Rattle.syntax.specs.declared.TampType.TheVariants.{StatusQuery, Update, CommunityUpdate, SeqNumAdjust}
-use Rattle.syntax.specs.declared.Recognised.TheVariants.{Tamp, Unknown}
 use Rattle.syntax.specs.Types.{type_oid, syntax_of, tamp_types, row_of, recognised}
-use Rattle.syntax.specs.Contract.TypeTable.{type_table, type_rows, type_octets, type_at}
+use Rattle.syntax.specs.Contract.TypeTable.{type_table, type_rows, type_octets, type_at, typed_rows}
 use Rattle.syntax.specs.Contract.Table.{message_row}
 use Rattle.syntax.specs.Contract.Rows.{grammar_of}
 use Rattle.syntax.proofs.Rows.{every_below, every_below_lem}
 use Rattle.syntax.proofs.Ties.{message_is}
 
-tamp≢unknown : {t : TampType} → Tamp t ≡ Unknown → ⊥
+tamp≢unknown : {t : TampType} → Some t ≡ None → ⊥
 tamp≢unknown e = let z : ◌≡◌ {A = ℕ} 0 1 = cc in omega arith
 
-tamp_same : {t u : TampType} → Tamp t ≡ Tamp u → t ≡ u
+tamp_same : {t u : TampType} → Some t ≡ Some u → t ≡ u
 tamp_same e = cc
 
 -- the test of a row: its octets are its type's, and no other row has them
@@ -57,7 +56,7 @@ differ j k m l e =
 -- recognising, row by row
 
 module _ (o : List ℕ) (t : TampType) (ts : List TampType) where
-  row_here : same o (type_oid t) ≡ true → row_of (t ∷ ts) o ≡ Tamp t
+  row_here : same o (type_oid t) ≡ true → row_of (t ∷ ts) o ≡ Some t
   unfolding row_of
   row_here e = rw (e, row_of)
 
@@ -65,41 +64,32 @@ module _ (o : List ℕ) (t : TampType) (ts : List TampType) where
   unfolding row_of
   row_next e = rw (e, row_of)
 
-module _ (o : List ℕ) (k : ℕ) (l : k < type_rows) where
-  from_row : row_of (drop k tamp_types) o ≡ row_of (type_at k ∷ drop (suc k) tamp_types) o
-  from_row = ap (λ (ts : List TampType). row_of ts o) (drop-cons tamp_types k SeqNumAdjust l)
+-- a search of the types with their octets
+searched : List (List ℕ × TampType) → List ℕ → Option TampType
+searched rows o = option_map (λ row. row.1) (find (λ row. same o row.0) rows)
 
-  pub types_here : same o (type_octets k) ≡ true → row_of (drop k tamp_types) o ≡ Tamp (type_at k)
-  types_here e = from_row ∙ row_here o (type_at k) (drop (suc k) tamp_types) (sym (ap (same o) (type_octets_lem k l)) ∙ e)
+searched_row : (ts : List TampType) (o : List ℕ) → searched (map (λ t. (type_oid t, t)) ts) o ≡ row_of ts o
+unfolding searched row_of
+searched_row [] o = refl
+searched_row (t ∷ ts) o =
+    by_test (same o (type_oid t))
+    (λ h. rw (h, row_of))
+    (λ h. rw (h, row_of) (searched_row ts o))
 
-  pub types_next : same o (type_octets k) ≡ false → row_of (drop k tamp_types) o ≡ row_of (drop (k + 1) tamp_types) o
-  types_next e = rw add-one (from_row ∙ row_next o (type_at k) (drop (suc k) tamp_types) (sym (ap (same o) (type_octets_lem k l)) ∙ e))
+typed_rows_lem : typed_rows ≡ map (λ t. (type_oid t, t)) tamp_types
+typed_rows_lem =
+    rw (type_octets_lem 0 (omega arith), type_octets_lem 1 (omega arith), type_octets_lem 2 (omega arith), type_octets_lem 3 (omega arith))
 
--- what a comparison with a row's octets, read from the table, says
-pub types_compared : {table row : List ℕ} {b : Bool} (o : List ℕ) (k : ℕ) → table ≡ type_table → row ≡ slice table (10 * k) (10 * k + 10) → b ≡ same o row
-    → b ≡ same o (type_octets k)
-types_compared o k p q e = e ∙ ap (same o) (q ∙ ap (λ (t : List ℕ). slice t (10 * k) (10 * k + 10)) p)
-
-pub types_start : (o : List ℕ) → row_of (drop 0 tamp_types) o ≡ recognised o
-unfolding recognised
-types_start o = refl
-
-pub types_end : (o : List ℕ) (k : ℕ) → type_rows ≤ k → row_of (drop k tamp_types) o ≡ Unknown
-unfolding row_of
-types_end o k l = rw (drop_of_length-le tamp_types l)
-
-pub type_last : (k : ℕ) → (k ≡ 0 → ⊥) → (k ≡ 1 → ⊥) → (k ≡ 2 → ⊥) → type_at k ≡ SeqNumAdjust
-type_last k a b c =
-    by_test (eqb k 3)
-    (λ e. ap type_at (eqb-true k 3 e))
-    (λ e.
-    let l : 4 ≤ k = omega (arith, eqb-false k 3 e) in
-    get_or-eq_default tamp_types SeqNumAdjust l)
+-- what the search of the table gives
+pub recognised_by : {rows : List (List ℕ × TampType)} {r : Option TampType} (o : List ℕ) → rows ≡ typed_rows → r ≡ option_map (λ row. row.1) (find (λ row. same o row.0) rows)
+    → r ≡ recognised o
+unfolding searched recognised
+recognised_by o q e = e ∙ ap (λ x. searched x o) (q ∙ typed_rows_lem) ∙ searched_row tamp_types o
 
 -- The rule.
 
 -- a content type that is recognised has the octets of its type
-found_octets : (ts : List TampType) (o : List ℕ) (t : TampType) → row_of ts o ≡ Tamp t → o ≡ type_oid t
+found_octets : (ts : List TampType) (o : List ℕ) (t : TampType) → row_of ts o ≡ Some t → o ≡ type_oid t
 unfolding row_of
 found_octets [] o t e = absurd (tamp≢unknown (sym e))
 found_octets (u ∷ ts) o t e =
@@ -109,7 +99,7 @@ found_octets (u ∷ ts) o t e =
     rw (← q) (same→≡ o (type_oid u) h))
     (λ h. found_octets ts o t (sym (row_next o u ts h) ∙ e))
 
-found_type : (t : TampType) → recognised (type_oid t) ≡ Tamp t
+found_type : (t : TampType) → recognised (type_oid t) ≡ Some t
 unfolding recognised row_of same type_oid oid arc arcs digits
 found_type StatusQuery = refl
 found_type Update = refl
@@ -121,7 +111,7 @@ found_type SeqNumAdjust = refl
 pub record TypeRow (k : ℕ) : Type 0 where
   pub given : type_octets k ≡ type_oid (type_at k)
   pub alone : (j : ℕ) → j < type_rows → type_octets j ≡ type_octets k → j ≡ k
-  pub found : (o : List ℕ) → (recognised o ≡ Tamp (type_at k)) ↔ (o ≡ type_octets k)
+  pub found : (o : List ℕ) → (recognised o ≡ Some (type_at k)) ↔ (o ≡ type_octets k)
   pub syntax : (o : List ℕ) → grammar_of o (message_row (type_at k)) ≡ syntax_of (type_at k)
 
 pub type_row : (k : ℕ) → k < type_rows → TypeRow k
@@ -150,10 +140,10 @@ type_has_row CommunityUpdate = (omega arith, refl)
 type_has_row SeqNumAdjust = (omega arith, refl)
 
 -- a content type is one of the four exactly when it equals a row's octets
-pub one_of_four : (o : List ℕ) → ((t : TampType) × (recognised o ≡ Tamp t)) ↔ ((k : ℕ) × (k < type_rows) × (o ≡ type_octets k))
+pub one_of_four : (o : List ℕ) → ((t : TampType) × (recognised o ≡ Some t)) ↔ ((k : ℕ) × (k < type_rows) × (o ≡ type_octets k))
 one_of_four o = (
   λ h.
       let r = type_has_row h.0 in
-      (row_of_type h.0, r.0, ((type_row (row_of_type h.0) r.0).found o).0 (h.1 ∙ ap Tamp (sym r.1))),
+      (row_of_type h.0, r.0, ((type_row (row_of_type h.0) r.0).found o).0 (h.1 ∙ ap Some (sym r.1))),
   λ h. (type_at h.0, ((type_row h.0 h.1).found o).1 h.2),
 )

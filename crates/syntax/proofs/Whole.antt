@@ -1,38 +1,45 @@
--- DER and syntax at once: the run of a window's elements step by step, and a row's kind, one way through the walk's tests at a time.
+-- DER and syntax at once: the run of a window's elements step by step, and a row, one way through the walk's tests at a time.
+use Rattle.std.specs.Prelude.{Result, Ok, Err}
 use Prim.Native.Nat.{ℕ, ◌-◌, ◌≤◌, ◌<◌}
 use native.Mathlib.Omega.{arith}
-use mathlib.Core.Bool.{Bool, true, false, not, ◌&&◌, ◌||◌, and-eq-true_iff}
+use mathlib.Core.Bool.{Bool, true, false, not, ◌&&◌, and-eq-true_iff}
 use mathlib.Core.List.{List, [], ◌∷◌}
+use mathlib.Core.Logic.{◌⊎◌}
 use mathlib.Core.Path.{◌≡◌, refl, sym, ap, ap₂, ◌∙◌}
 use lib.Dec.{ltb, leb, eqb}
 use borrow.Author.Tests.{not-true, ltb-true, ltb-false, leb-true, leb-false, eq-eqb, ne_eqb, eqb-false}
 use Rattle.octets.specs.Octets.{slice}
 use Rattle.octets.proofs.Lists.{by_test}
 use Rattle.der.specs.declared.Element.{Element}
-use Rattle.der.specs.declared.Fit.{Fit}
-use Rattle.der.specs.declared.Fit.TheVariants.{Fits, Breaks}
 use Rattle.der.specs.Element.{element_at, elements, constructed}
-use Rattle.der.specs.Fit.{and_then, held, kept, each_from, each}
+use Rattle.der.specs.Fit.{and_then, held, kept, each_from, each, Fit}
 use Rattle.der.specs.Check.{sorted_in, der, spans}
 use Rattle.der.proofs.Bools.{and_true, and_false}
 use Rattle.der.proofs.Elements.{valid_within, elements_end, elements_turn}
 use Rattle.der.proofs.Checks.{member_fit, sorted_other, der_bad, der_run_lem, spans-none, spans_one}
-use Rattle.syntax.specs.declared.row.Row.{Row}
-use Rattle.syntax.specs.declared.row.Field.{Field}
-use Rattle.syntax.specs.declared.row.Field.TheVariants as field
+use Rattle.syntax.specs.declared.row.Row.TheVariants.{Free, End, Many, Obeys, Field}
+use Rattle.syntax.specs.declared.row.Kind.{Kind}
+use Rattle.syntax.specs.declared.row.Kind.TheVariants.{Optional, Required, One, AnyOptional}
+use Rattle.syntax.specs.declared.row.Rule.TheVariants.{the_data}
 use Rattle.syntax.specs.Grammar.{obeyed, Syntax, many, fit}
-use Rattle.syntax.specs.Contract.Rows.{rule_of, grammar_of, syntax_at, RowIs, RowOf, then_after, left_out, by_contents}
+use Rattle.syntax.specs.Contract.Rows.{rule_of, field_syntax, grammar_of, RowIs, then_after, left_out}
 use Rattle.syntax.specs.Contract.Whole.{der_run, conforms_in, after_if, then_conforms, entered}
 use Rattle.syntax.proofs.Each.{kept_then, kept-held, kept_turn}
 use Rattle.der.proofs.Runs.{again}
 use Rattle.syntax.proofs.Match.{Met}
-use Rattle.syntax.proofs.RowSteps.{row_free, row_end, row_end_breaks, row_many, row_rule, many_end, many_broken, many_turn}
+use Rattle.syntax.proofs.RowSteps.{by_contents, row_free, row_end, row_end_breaks, row_many, row_rule, row_field, members_fit, members_turn}
 use Rattle.syntax.proofs.RowSteps.{field-none, field_broken, field_any, field_one, field-other, field-here}
 
 swap : (a b c d : Bool) → (a && b) && (c && d) ≡ (a && c) && (b && d)
 swap true true c d = refl
 swap true false c d = sym (and_false c)
 swap false b c d = refl
+
+all_hold : {v : Bool} → v ≡ true → (a b c d : Bool) → ((v && a) && b) && ((v && c) && d) ≡ (a && c) && (b && d)
+all_hold h a b c d = rw h (swap a b c d)
+
+none_holds : {v : Bool} → v ≡ false → (a b c : Bool) → ((v && a) && b) && c ≡ false
+none_holds h a b c = rw h
 
 assoc : (a b c : Bool) → (a && b) && c ≡ a && (b && c)
 assoc true b c = refl
@@ -131,24 +138,15 @@ entered_is body tag d e =
     let three = (and-eq-true_iff (not (eqb d 0)) (constructed tag)).0 two.1 in
     (eqb-false tag 49 (not-true _ two.0), (eqb-false d 0 (not-true _ three.0), three.1))
 
--- a row of the table, by what was read of it: a field and what stands after it, or another row
-module _ {n : ℕ} {row : Row} (r : RowIs n row) (o s : List ℕ) (at stop d outer : ℕ) where
-  pub whole_stands : conforms_in d (grammar_of o n) s at stop outer ≡ conforms_in d (syntax_at o row) s at stop outer
-  whole_stands = ap (λ (g : Syntax). conforms_in d g s at stop outer) (r.stands o)
+-- a row of the table, as read
 
-  module _ {f : Field} (h : conforms_in d (syntax_at o row) s at stop outer ≡ then_conforms f (λ i. conforms_in d (grammar_of o row.next) s i stop outer)) where
-    pub conforms_on : {i : ℕ} → f ≡ field.Behind i → conforms_in d (grammar_of o n) s at stop outer ≡ conforms_in d (grammar_of o row.next) s i stop outer
-    unfolding then_conforms
-    conforms_on e = whole_stands ∙ (rw e at h)
-
-    pub conforms-not : {i : ℕ} → f ≡ field.Breaks i → conforms_in d (grammar_of o n) s at stop outer ≡ false
-    unfolding then_conforms
-    conforms-not e = whole_stands ∙ (rw e at h)
-
-left-conforms : (kind at x y : ℕ) (d : ℕ → Bool) (f : ℕ → Fit)
+left-conforms : (kind : Kind) (at x y : ℕ) (d : ℕ → Bool) (f : ℕ → Fit)
     → d at && kept (then_after (left_out kind at x) f) ≡ then_conforms (left_out kind at y) (λ i. d i && kept (f i))
 unfolding left_out then_after then_conforms
-left-conforms kind at x y d f = by_test (eqb kind 3 || eqb kind 4) (λ t. rw (t, left_out) (and_false (d at))) (λ t. rw (t, left_out))
+left-conforms Optional at x y d f = refl
+left-conforms Required at x y d f = and_false (d at)
+left-conforms One at x y d f = and_false (d at)
+left-conforms AnyOptional at x y d f = refl
 
 if_conforms : (ok : Bool) (stop : ℕ) (rest : ℕ → Bool) → then_conforms (after_if ok stop) rest ≡ ok && rest stop
 unfolding then_conforms after_if
@@ -157,127 +155,148 @@ if_conforms false stop rest = refl
 
 contents-kept : (x : Fit) (stop : ℕ) (f : ℕ → Fit) → kept (then_after (by_contents x stop) f) ≡ kept x && kept (f stop)
 unfolding then_after by_contents
-contents-kept Fits stop f = refl
-contents-kept (Breaks o) stop f = refl
+contents-kept (Ok _) stop f = refl
+contents-kept (Err o) stop f = refl
 
-module _ {b : Bool} {table : List ℕ} {row : Row} (r : RowOf b table row) (o s : List ℕ) (at stop d outer : ℕ) where
+-- a field, by its kind, and what stands next
+module _ (tag : ℕ) (body next : Syntax) (s : List ℕ) (at stop d outer : ℕ) (kind : Kind) where
   abbrev answer : Bool
-  answer = conforms_in d (syntax_at o row) s at stop outer
-
-  abbrev body : Syntax
-  body = grammar_of o row.body
+  answer = conforms_in d (field_syntax kind tag body next) s at stop outer
 
   abbrev run : ℕ → Bool
   run i = der_run d s i stop
 
-  abbrev next : ℕ → Fit
-  next i = fit (grammar_of o row.next) s i stop outer
+  abbrev rest : ℕ → Fit
+  rest i = fit next s i stop outer
 
-  abbrev from : Field → Bool
-  from g = then_conforms g (λ i. run i && kept (next i))
+  abbrev from : Result ℕ ℕ → Bool
+  from g = then_conforms g (λ i. run i && kept (rest i))
 
-  by_fit : {f : Fit} → fit (syntax_at o row) s at stop outer ≡ f → answer ≡ run at && kept f
+  by_fit : {f : Fit} → fit (field_syntax kind tag body next) s at stop outer ≡ f → answer ≡ run at && kept f
   by_fit h = ap (λ (f : Fit). run at && kept f) h
 
-  -- rows that are no field's
+  pub whole_none : {g : Result ℕ ℕ} → g ≡ left_out kind at at → stop ≤ at → answer ≡ from g
+  whole_none v l = rw v (by_fit (field-none tag body next s at stop outer kind refl l) ∙ left-conforms kind at outer at run rest)
 
-  pub whole_free : row.kind ≡ 0 → {x : Fit} → x ≡ each (member_fit d s 0) (elements s at stop) → {ok : Bool} → ok ≡ kept x → ok ≡ answer
-  whole_free e v p =
-      let n : ◌≡◌ {A = ℕ} 0 49 → ⊥ = λ z. omega arith in
-      p ∙ ap kept v ∙ run-free d s at stop 0 n ∙ sym (by_fit (row_free r o s at stop outer e) ∙ and_true (run at))
-
-  pub whole_end : row.kind ≡ 1 → leb stop at ≡ answer
-  whole_end e =
-      by_test (leb stop at)
-      (λ t.
-      let l = leb-true stop at t in
-      t ∙ sym (by_fit (row_end r o s at stop outer e l) ∙ and_true (run at) ∙ run_end d s at stop l))
-      (λ t.
-      let l = leb-false stop at t in
-      t ∙ sym (by_fit (row_end_breaks r o s at stop outer e l) ∙ and_false (run at)))
-
-  pub whole_many : row.kind ≡ 6 → conforms_in d (many body) s at stop outer ≡ answer
-  whole_many e = sym (by_fit (row_many r o s at stop outer e))
-
-  pub whole_rule : 7 ≤ row.kind → {x : Bool} → conforms_in d body s at stop outer ≡ x
-      → x && obeyed (rule_of (row.kind - 7) row.argument o) (slice s at stop) ≡ answer
-  whole_rule l e =
-      let f = fit body s at stop outer in
-      let ok = obeyed (rule_of (row.kind - 7) row.argument o) (slice s at stop) in
-      rw (← e)
-      (assoc (run at) (kept f) ok
-      ∙ ap (λ (x : Bool). run at && x) (sym (kept_then f (held outer ok) ∙ ap (λ (x : Bool). kept f && x) (kept-held outer ok)))
-      ∙ sym (by_fit (row_rule r o s at stop outer l)))
-
-  -- rows of a field
-
-  pub whole_none : b ≡ true → {g : Field} → g ≡ left_out row.kind at at → stop ≤ at → answer ≡ from g
-  whole_none f v l = rw v (by_fit (field-none r o s at stop outer f refl l) ∙ left-conforms row.kind at outer at run next)
-
-  pub whole_broken : b ≡ true → {e : Element} → e ≡ element_at s at stop → at < stop → e.valid ≡ false → answer ≡ from (field.Breaks at)
+  pub whole_broken : {e : Element} → e ≡ element_at s at stop → at < stop → e.valid ≡ false → answer ≡ from (Err at)
   unfolding then_after then_conforms
-  whole_broken f q l bad = by_fit (field_broken r o s at stop outer f q l bad) ∙ and_false (run at)
+  whole_broken q l bad = by_fit (field_broken tag body next s at stop outer kind q l bad) ∙ and_false (run at)
 
   module _ {e : Element} (m : Met s at stop e) where
     -- the element is der, and what its contents give
-    by_element_lem : (x : Fit) → fit (syntax_at o row) s at stop outer ≡ then_after (by_contents x e.stop) next
-        → {ok : Bool} {g : Field} → ok ≡ kept (der d s e) && kept x → g ≡ after_if ok e.stop → answer ≡ from g
+    by_element_lem : (x : Fit) → fit (field_syntax kind tag body next) s at stop outer ≡ then_after (by_contents x e.stop) rest
+        → {ok : Bool} {g : Result ℕ ℕ} → ok ≡ kept (der d s e) && kept x → g ≡ after_if ok e.stop → answer ≡ from g
     by_element_lem x h p v =
         rw (v, p)
-        (ap₂ ◌&&◌ (run_turn d s at stop m.is m.valid) (ap kept h ∙ contents-kept x e.stop next)
-        ∙ swap (kept (der d s e)) (run e.stop) (kept x) (kept (next e.stop))
-        ∙ sym (if_conforms (kept (der d s e) && kept x) e.stop (λ i. run i && kept (next i))))
+        (ap₂ ◌&&◌ (run_turn d s at stop m.is m.valid) (ap kept h ∙ contents-kept x e.stop rest)
+        ∙ swap (kept (der d s e)) (run e.stop) (kept x) (kept (rest e.stop))
+        ∙ sym (if_conforms (kept (der d s e) && kept x) e.stop (λ i. run i && kept (rest i))))
 
-    pub whole_any : row.kind ≡ 5 → {x : Fit} {ok : Bool} {g : Field} → x ≡ der d s e → ok ≡ kept x → g ≡ after_if ok e.stop → answer ≡ from g
+    pub whole_any : kind ≡ AnyOptional → {ok : Bool} {g : Result ℕ ℕ} → ok ≡ kept (der d s e) → g ≡ after_if ok e.stop → answer ≡ from g
     unfolding then_after by_contents
-    whole_any h w p v = by_element_lem Fits (field_any r o s at stop outer m h) (p ∙ ap kept w ∙ sym (and_true (kept (der d s e)))) v
+    whole_any k p v = by_element_lem (Ok tt) (field_any tag body next s at stop outer m k) (p ∙ sym (and_true (kept (der d s e)))) v
 
-    pub whole_one : {ok : Bool} {g : Field} → ok ≡ conforms_in d body s at e.stop outer → g ≡ after_if ok e.stop → row.kind ≡ 4 → answer ≡ from g
-    whole_one p v k =
+    pub whole_one : kind ≡ One → {ok : Bool} {g : Result ℕ ℕ} → ok ≡ conforms_in d body s at e.stop outer → g ≡ after_if ok e.stop → answer ≡ from g
+    whole_one k p v =
         let x = fit body s at e.stop outer in
-        by_element_lem x (field_one r o s at stop outer m refl refl k)
+        by_element_lem x (field_one tag body next s at stop outer m k refl refl)
         (p ∙ ap (λ (y : Bool). y && kept x) (run_one d s at stop m.is m.valid))
         v
 
-    module _ (f : b ≡ true) (c : row.kind ≡ 5 → ⊥) (n : row.kind ≡ 4 → ⊥) where
-      pub whole_other : {g : Field} → g ≡ left_out row.kind at at → (e.tag ≡ row.argument → ⊥) → answer ≡ from g
-      whole_other v h = rw v (by_fit (field-other r o s at stop outer m f c n refl h) ∙ left-conforms row.kind at at at run next)
+    module _ (k : (kind ≡ Optional) ⊎ (kind ≡ Required)) where
+      pub whole_other : {g : Result ℕ ℕ} → g ≡ left_out kind at at → (e.tag ≡ tag → ⊥) → answer ≡ from g
+      whole_other v h = rw v (by_fit (field-other tag body next s at stop outer m kind k refl h) ∙ left-conforms kind at at at run rest)
 
-      pub whole_here : e.tag ≡ row.argument → {ok : Bool} {g : Field} → ok ≡ kept (der d s e) && kept (fit body s e.start e.stop at)
+      pub whole_here : e.tag ≡ tag → {ok : Bool} {g : Result ℕ ℕ} → ok ≡ kept (der d s e) && kept (fit body s e.start e.stop e.at)
           → g ≡ after_if ok e.stop → answer ≡ from g
-      whole_here t p v = by_element_lem (fit body s e.start e.stop at) (field-here r o s at stop outer m f c n refl refl t) p v
+      whole_here t p v =
+          by_element_lem (fit body s e.start e.stop at) (field-here tag body next s at stop outer m kind k refl refl t)
+          (p ∙ ap (λ (i : ℕ). kept (der d s e) && kept (fit body s e.start e.stop i)) (valid_within s at stop m.is m.valid).here)
+          v
 
--- what the contents give, of an element that is entered and of one that is not
-module _ (g : Syntax) (s : List ℕ) (at stop d : ℕ) {e : Element} (m : Met s at stop e) {ok : Bool} where
-  pub by_run : (body : ℕ) → entered body e.tag d ≡ true → ok ≡ conforms_in (d - 1) g s e.start e.stop at
-      → ok ≡ kept (der d s e) && kept (fit g s e.start e.stop at)
-  by_run body t p =
-      let h = entered_is body e.tag d t in
-      p ∙ ap (λ (x : Bool). x && kept (fit g s e.start e.stop at)) (run_inside d s e m.valid h.0 h.1.0 h.1.1)
+-- what the contents give, of an element that is entered
+pub by_run : (g : Syntax) (s : List ℕ) (d : ℕ) (e : Element) → e.valid ≡ true → (body : ℕ) → entered body e.tag d ≡ true
+    → {ok : Bool} → ok ≡ conforms_in (d - 1) g s e.start e.stop e.at → ok ≡ kept (der d s e) && kept (fit g s e.start e.stop e.at)
+by_run g s d e v body t p =
+    let h = entered_is body e.tag d t in
+    p ∙ ap (λ (x : Bool). x && kept (fit g s e.start e.stop e.at)) (run_inside d s e v h.0 h.1.0 h.1.1)
 
-  pub by_leaf : ok ≡ kept (der d s e) && kept (fit g s e.start e.stop e.at) → ok ≡ kept (der d s e) && kept (fit g s e.start e.stop at)
-  by_leaf p = p ∙ ap (λ (i : ℕ). kept (der d s e) && kept (fit g s e.start e.stop i)) (valid_within s at stop m.is m.valid).here
+module _ (n : ℕ) (o s : List ℕ) (at stop d outer : ℕ) where
+  abbrev whole : Bool
+  whole = conforms_in d (grammar_of o n) s at stop outer
 
--- the loop over a run
+  by_row : {f : Fit} → fit (grammar_of o n) s at stop outer ≡ f → whole ≡ der_run d s at stop && kept f
+  by_row h = ap (λ (f : Fit). der_run d s at stop && kept f) h
 
-module _ (g : Syntax) (s : List ℕ) (at stop d outer : ℕ) where
-  pub whole_done : stop ≤ at → conforms_in d (many g) s at stop outer ≡ true
-  whole_done l = ap₂ (λ (x : Bool) (f : Fit). x && kept f) (run_end d s at stop l) (many_end g s at stop outer l)
+  pub whole_free : RowIs n Free → {x : Fit} → x ≡ each (member_fit d s 0) (elements s at stop) → whole ≡ kept x
+  whole_free r v =
+      let z : ◌≡◌ {A = ℕ} 0 49 → ⊥ = λ z. omega arith in
+      by_row (row_free n o s at stop outer r) ∙ and_true (der_run d s at stop) ∙ sym (ap kept v ∙ run-free d s at stop 0 z)
 
-  pub whole_bad : {e : Element} → e ≡ element_at s at stop → at < stop → e.valid ≡ false → conforms_in d (many g) s at stop outer ≡ false
-  whole_bad q l b = ap (λ (f : Fit). der_run d s at stop && kept f) (many_broken g s at stop outer q l b) ∙ and_false (der_run d s at stop)
+  pub whole_end : RowIs n End → whole ≡ leb stop at
+  whole_end r =
+      by_test (leb stop at)
+      (λ t.
+      let l = leb-true stop at t in
+      by_row (row_end n o s at stop outer r l) ∙ and_true (der_run d s at stop) ∙ run_end d s at stop l ∙ sym t)
+      (λ t. by_row (row_end_breaks n o s at stop outer r (leb-false stop at t)) ∙ and_false (der_run d s at stop) ∙ sym t)
 
-  module _ {e : Element} (q : e ≡ element_at s at stop) (b : e.valid ≡ true) where
-    whole_turn : conforms_in d (many g) s at stop outer ≡ conforms_in d g s at e.stop outer && conforms_in d (many g) s e.stop stop outer
-    whole_turn =
-        let here : fit g s e.at e.stop outer ≡ fit g s at e.stop outer =
-        ap (λ (i : ℕ). fit g s i e.stop outer) (valid_within s at stop q b).here
-        in
-        ap₂ ◌&&◌ (run_turn d s at stop q b)
-        (ap kept (many_turn g s at stop outer q b ∙ ap (λ (f : Fit). and_then f (fit (many g) s e.stop stop outer)) here)
-        ∙ kept_then (fit g s at e.stop outer) (fit (many g) s e.stop stop outer))
-        ∙ swap (kept (der d s e)) (der_run d s e.stop stop) (kept (fit g s at e.stop outer)) (kept (fit (many g) s e.stop stop outer))
-        ∙ ap (λ (x : Bool). (x && kept (fit g s at e.stop outer)) && conforms_in d (many g) s e.stop stop outer) (sym (run_one d s at stop q b))
+  pub whole_many : {body : ℕ} → RowIs n (Many body) → whole ≡ conforms_in d (many (grammar_of o body)) s at stop outer
+  whole_many r = by_row (row_many n o s at stop outer r)
 
-    pub whole_goes : {x : Bool} → conforms_in d g s at e.stop outer ≡ x → conforms_in d (many g) s at stop outer ≡ x && conforms_in d (many g) s e.stop stop outer
-    whole_goes h = whole_turn ∙ ap (λ (x : Bool). x && conforms_in d (many g) s e.stop stop outer) h
+  pub whole_rule : {rule : the_data} {body : ℕ} → RowIs n (Obeys rule body)
+      → whole ≡ conforms_in d (grammar_of o body) s at stop outer && obeyed (rule_of rule o) (slice s at stop)
+  whole_rule {rule = rule} {body = body} r =
+      let f = fit (grammar_of o body) s at stop outer in
+      let ok = obeyed (rule_of rule o) (slice s at stop) in
+      by_row (row_rule n o s at stop outer r)
+      ∙ ap (λ (x : Bool). der_run d s at stop && x) (kept_then f (held outer ok) ∙ ap (λ (x : Bool). kept f && x) (kept-held outer ok))
+      ∙ sym (assoc (der_run d s at stop) (kept f) ok)
+
+  module _ {kind : Kind} {tag body next : ℕ} (r : RowIs n (Field kind tag body next)) {f : Result ℕ ℕ}
+      (h : (g : Syntax) → conforms_in d (field_syntax kind tag (grammar_of o body) g) s at stop outer ≡ then_conforms f (λ i. conforms_in d g s i stop outer)) where
+    pub conforms_on : {i : ℕ} → f ≡ Ok i → whole ≡ conforms_in d (grammar_of o next) s i stop outer
+    unfolding then_conforms
+    conforms_on e = by_row (row_field n o s at stop outer r) ∙ (rw e at h (grammar_of o next))
+
+    pub conforms-not : {i : ℕ} → f ≡ Err i → whole ≡ false
+    unfolding then_conforms
+    conforms-not e = by_row (row_field n o s at stop outer r) ∙ (rw e at h (grammar_of o next))
+
+-- the members of a run, of which each is read by itself
+
+module _ (d : ℕ) (g : Syntax) (s : List ℕ) (outer : ℕ) where
+  abbrev pub members_conform : List Element → Bool
+  members_conform es = kept (each (λ former e. der d s e) es) && kept (members_fit g s outer es)
+
+  pub conforms_many : (at stop : ℕ) → conforms_in d (many g) s at stop outer ≡ members_conform (elements s at stop)
+  unfolding der_run fit
+  conforms_many at stop = refl
+
+  pub conform_end : {l : List Element} → l ≡ [] → members_conform l ≡ true
+  unfolding each
+  conform_end q = ap members_conform q
+
+  module _ {e : Element} {m l : List Element} (q : l ≡ e ∷ m) where
+    turn : members_conform l ≡ ((e.valid && kept (der d s e)) && kept (each (λ former x. der d s x) m)) && ((e.valid && kept (fit g s e.at e.stop outer)) && kept (members_fit g s outer m))
+    unfolding each each_from
+    turn =
+        ap members_conform q
+        ∙ ap₂ ◌&&◌
+        (kept_turn (λ former x. der d s x) e e m ∙ ap (λ (b : Bool). (e.valid && kept (der d s e)) && b) (from_each m))
+        (ap kept (members_turn g s outer e m)
+        ∙ kept_then _ (members_fit g s outer m)
+        ∙ ap (λ (b : Bool). b && kept (members_fit g s outer m)) (kept_then (held e.at e.valid) (fit g s e.at e.stop outer) ∙ ap (λ (b : Bool). b && kept (fit g s e.at e.stop outer)) (kept-held e.at e.valid)))
+      where
+        from_each : (es : List Element) → kept (each_from (λ former x. der d s x) e es) ≡ kept (each (λ former x. der d s x) es)
+        from_each [] = refl
+        from_each (x ∷ es) = refl
+
+    pub conform_bad : e.valid ≡ false → members_conform l ≡ false
+    conform_bad v = turn ∙ none_holds v (kept (der d s e)) (kept (each (λ former x. der d s x) m)) _
+
+    pub conform_goes : e ≡ element_at s e.at e.stop → e.valid ≡ true → {b : Bool} → b ≡ conforms_in d g s e.at e.stop outer → members_conform l ≡ b && members_conform m
+    conform_goes i v h =
+        turn
+        ∙ all_hold v (kept (der d s e)) (kept (each (λ former x. der d s x) m)) (kept (fit g s e.at e.stop outer)) (kept (members_fit g s outer m))
+        ∙ ap (λ (b : Bool). b && members_conform m) (sym (h ∙ ap (λ (b : Bool). b && kept (fit g s e.at e.stop outer)) (run_one d s e.at e.stop i v)))

@@ -1,12 +1,10 @@
 -- Syntax as data: what may stand in a window of octets, and the one definition of matching.
-use Rattle.std.specs.Prelude.{ℕ, Bool, true, false, not, ◌&&◌, List, [], ◌∷◌, length, ltb, leb, eqb}
+use Rattle.std.specs.Prelude.{ℕ, Bool, true, false, not, ◌&&◌, List, [], ◌∷◌, length, ltb, leb, eqb, Ok, Err}
 use Rattle.octets.specs.Limits.{max_number}
 use Rattle.octets.specs.Octets.{octet, slice, same}
 use Rattle.octets.specs.Number.{number}
-use Rattle.der.specs.declared.Fit.{Fit}
-use Rattle.der.specs.declared.Fit.TheVariants.{Fits, Breaks}
 use Rattle.der.specs.Element.{element_at, elements}
-use Rattle.der.specs.Fit.{and_then, held, each}
+use Rattle.der.specs.Fit.{and_then, held, each, Fit}
 use Rattle.der.specs.Contents.{integer_ok}
 
 -- what a type asks of its contents as a whole. The rules of the universal tags are those of status 1 and are not asked again: these are
@@ -53,12 +51,12 @@ pub data Syntax : Type 0 where
 
 -- at a place of a window: no element is left, what stands there is none, or one stands there
 abbrev pub by_element : Bool → ℕ → Bool → Fit → Fit → Fit
-by_element room at valid none there = elim room [ false ↦ none | true ↦ elim valid [ false ↦ Breaks at | true ↦ there ] ]
+by_element room at valid none there = elim room [ false ↦ none | true ↦ elim valid [ false ↦ Err at | true ↦ there ] ]
 
 -- Whether the window [at, stop), the contents of the element at `outer`, is as the syntax says. 02, E3: an element that may not stand at its place is charged itself, a missing part
 -- to the element that lacks it.
 unfoldable pub fit : Syntax → List ℕ → ℕ → ℕ → ℕ → Fit
-fit free s at stop outer = Fits
+fit free s at stop outer = Ok tt
 fit end s at stop outer = held at (leb stop at)
 fit (obeys r g) s at stop outer = and_then (fit g s at stop outer) (held outer (obeyed r (slice s at stop)))
 fit (optional t g next) s at stop outer =
@@ -70,7 +68,7 @@ fit (optional t g next) s at stop outer =
     ])
 fit (one g next) s at stop outer =
     let e = element_at s at stop in
-    by_element (ltb at stop) at e.valid (Breaks outer) (and_then (fit g s at e.stop outer) (fit next s e.stop stop outer))
+    by_element (ltb at stop) at e.valid (Err outer) (and_then (fit g s at e.stop outer) (fit next s e.stop stop outer))
 fit (any_optional next) s at stop outer =
     let e = element_at s at stop in
     by_element (ltb at stop) at e.valid (fit next s at stop outer) (fit next s e.stop stop outer)

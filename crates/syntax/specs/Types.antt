@@ -1,11 +1,9 @@
 -- Object identifiers of the RFCs, and the four TAMP types of 01.
-use Rattle.std.specs.Prelude.{ℕ, true, false, List, [], ◌∷◌}
+use Rattle.std.specs.Prelude.{ℕ, true, false, List, [], ◌∷◌, Option, Some, None}
 use Rattle.octets.specs.Octets.{same}
 use Rattle.der.specs.Oid.{oid}
 use Rattle.syntax.specs.declared.TampType.{TampType}
 use Rattle.syntax.specs.declared.TampType.TheVariants.{StatusQuery, Update, CommunityUpdate, SeqNumAdjust}
-use Rattle.syntax.specs.declared.Recognised.{Recognised}
-use Rattle.syntax.specs.declared.Recognised.TheVariants.{Tamp, Unknown}
 use Rattle.syntax.specs.Grammar.{Syntax}
 use Rattle.syntax.specs.Asn.{TAMPStatusQuery, TAMPUpdate, TAMPCommunityUpdate, SequenceNumberAdjust}
 
@@ -43,9 +41,9 @@ abbrev pub tamp_types : List TampType
 tamp_types = StatusQuery ∷ Update ∷ CommunityUpdate ∷ SeqNumAdjust ∷ []
 
 -- the row that an OID's contents equal
-unfoldable pub row_of : List TampType → List ℕ → Recognised
-row_of [] o = Unknown
-row_of (t ∷ ts) o = elim (same o (type_oid t)) [ true ↦ Tamp t | false ↦ row_of ts o ]
+unfoldable pub row_of : List TampType → List ℕ → Option TampType
+row_of [] o = None
+row_of (t ∷ ts) o = elim (same o (type_oid t)) [ true ↦ Some t | false ↦ row_of ts o ]
 
-unfoldable pub recognised : List ℕ → Recognised
+unfoldable pub recognised : List ℕ → Option TampType
 recognised o = row_of tamp_types o

@@ -2,8 +2,10 @@
 #![tactic(auto)]
 
 ghost use Rattle.std.specs.Prelude.{◌≡◌};
+ghost use Rattle.std.specs.List.{find};
+ghost use Rattle.std.specs.Option.{option_map};
+ghost use Rattle.octets.specs.Octets.{same};
 ghost use Rattle.syntax.specs.Types.{recognised};
-ghost use Rattle.syntax.specs.Contract.TypeTable.{type_table, type_at};
 
 mod matcher;
 mod row;
@@ -20,13 +22,6 @@ pub enum TampType {
     Update,
     CommunityUpdate,
     SeqNumAdjust,
-}
-
-// Whether a content type is one of the four.
-#[derive(Clone, Copy)]
-pub enum Recognised {
-    Tamp(TampType),
-    Unknown,
 }
 
 // What a reader asks the matcher for.
@@ -57,47 +52,42 @@ pub const ID_MESSAGE_DIGEST: [u8; 9] = [0x2A, 0x86, 0x48, 0x86, 0xF7, 0x0D, 0x01
 
 const ID_SIGNED_DATA: [u8; 9] = [0x2A, 0x86, 0x48, 0x86, 0xF7, 0x0D, 0x01, 0x07, 0x02];
 
-// RFC 5934: the four TAMP types, a row of ten octets each.
-const TYPES: [u8; 40] = [
+// RFC 5934: the four TAMP types, each with the contents of its OID.
+const TYPES: [([u8; 10], TampType); 4] = [
     // id-ct-TAMP-statusQuery
-    0x60, 0x86, 0x48, 0x01, 0x65, 0x02, 0x01, 0x02, 0x4D, 0x01,
+    (
+        [0x60, 0x86, 0x48, 0x01, 0x65, 0x02, 0x01, 0x02, 0x4D, 0x01],
+        TampType::StatusQuery,
+    ),
     // id-ct-TAMP-update
-    0x60, 0x86, 0x48, 0x01, 0x65, 0x02, 0x01, 0x02, 0x4D, 0x03,
+    (
+        [0x60, 0x86, 0x48, 0x01, 0x65, 0x02, 0x01, 0x02, 0x4D, 0x03],
+        TampType::Update,
+    ),
     // id-ct-TAMP-communityUpdate
-    0x60, 0x86, 0x48, 0x01, 0x65, 0x02, 0x01, 0x02, 0x4D, 0x07,
+    (
+        [0x60, 0x86, 0x48, 0x01, 0x65, 0x02, 0x01, 0x02, 0x4D, 0x07],
+        TampType::CommunityUpdate,
+    ),
     // id-ct-TAMP-seqNumAdjust
-    0x60, 0x86, 0x48, 0x01, 0x65, 0x02, 0x01, 0x02, 0x4D, 0x0A,
+    (
+        [0x60, 0x86, 0x48, 0x01, 0x65, 0x02, 0x01, 0x02, 0x4D, 0x0A],
+        TampType::SeqNumAdjust,
+    ),
 ];
 
-// The type that a row of the table of types stands for.
-fn type_at(k: usize) -> TampType
-    ensures { result ≡ type_at k }
+// The type whose octets these are.
+fn find_type(types: &[([u8; 10], TampType)], o: &[u8]) -> Option<TampType>
+    ensures { result ≡ option_map (λ row. row.1) (find (λ row. same o.now row.0) types.now) }
 {
-    match k {
-        0 => TampType::StatusQuery,
-        1 => TampType::Update,
-        2 => TampType::CommunityUpdate,
-        _ => TampType::SeqNumAdjust,
-    }
-}
-
-// The row whose octets these are.
-fn find_type(types: &[u8], o: &[u8]) -> Recognised
-    requires { types.now ≡ type_table }
-    ensures { result ≡ recognised o.now }
-{
-    let mut k = 0;
-    while k < 4 {
-        if octets::equal(o, octets::slice(types, 10 * k, 10 * k + 10)) {
-            return Recognised::Tamp(type_at(k));
-        }
-        k += 1;
-    }
-    Recognised::Unknown
+    types
+        .iter()
+        .find(|row| octets::equal(o, &row.0))
+        .map(|row| row.1)
 }
 
 // Whether the octets, the contents of an OID, are one of the four TAMP types, and which.
-pub fn recognise(o: &[u8]) -> Recognised
+pub fn recognise(o: &[u8]) -> Option<TampType>
     ensures { result ≡ recognised o.now }
 {
     find_type(&TYPES, o)

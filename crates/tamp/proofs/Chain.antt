@@ -1,19 +1,18 @@
 -- 01, Answers: the house refusals 201 to 204 in their order, and what comes after them.
+use Rattle.std.specs.Prelude.{Option, Some, None, Result, Ok, Err, is_err}
 use Prim.Native.Nat.{ℕ}
 use mathlib.Core.Bool.{Bool, true, false, not, ◌&&◌, ◌||◌, true≢false}
 use mathlib.Core.List.{List}
-use mathlib.Core.Option.{Option, none, some}
 use mathlib.Core.Path.{◌≡◌, refl, sym, ap, ◌∙◌}
 use lib.ListN.{length}
 use lib.Dec.{leb, ltb, eqb}
 use borrow.Author.Tests.{not-false, ltb-false}
 use Rattle.octets.specs.declared.Status.{Status}
-use Rattle.octets.specs.Status.{success, bad_image, bad_verdict, small_buffer, long_message}
+use Rattle.octets.specs.Status.{bad_image, bad_verdict, small_buffer, long_message}
 use Rattle.octets.specs.Limits.{reply_room, image_room, max_message}
-use Rattle.octets.specs.First.{given_if, refuses, or_status}
+use Rattle.octets.specs.First.{given_if}
 use Rattle.octets.specs.Lists.{all_of}
 use Rattle.octets.proofs.Lists.{neither}
-use Rattle.octets.proofs.First.{first_row, row_if, row_passes}
 use Rattle.store.specs.Store.{Store}
 use Rattle.store.specs.Image.{decode}
 use Rattle.store.proofs.Parts.{count_of_anchors}
@@ -23,7 +22,7 @@ use Rattle.protocol.specs.Call.{Outcome, refused, row_202, row_203, row_204, ans
 use Rattle.tamp.specs.declared.Answer.{Answer}
 use Rattle.tamp.specs.Left.{result_of, result_for, Promise, house_refusal}
 use Rattle.store.specs.Contract.Parts.{anchor_count}
-use Rattle.tamp.specs.Contract.Given.{Rooms, Stored}
+use Rattle.tamp.specs.Contract.Given.{Rooms, Stored, is_verdict, admitted}
 use Rattle.tamp.proofs.Answers.{refused_leaves}
 
 -- 201
@@ -31,20 +30,16 @@ stored : (image : List ℕ) → is_image image ≡ true → Stored image
 stored image e = go (decode image) refl e
   where
     go : (o : Option Store) → decode image ≡ o → is_image image ≡ true → Stored image
-    go none d t = absurd (true≢false (sym t ∙ rw d))
-    go (some σ) d t = record { store = σ; decodes = d }
-
--- 202, by the image's count of anchors
-abbrev is_verdict : List ℕ → List ℕ → Bool
-is_verdict image verdict = eqb (length verdict) (anchor_count image) && all_of (λ v. leb v 1) verdict
+    go None d t = absurd (true≢false (sym t ∙ rw d))
+    go (Some σ) d t = record { store = σ; decodes = d }
 
 module _ (s image verdict reply next : List ℕ) where
   -- what comes after 204, by the store of the image
   pub after : Option Store → Outcome
-  after none = refused bad_image
-  after (some σ) = guarded (answer_of s image σ (judgement σ verdict s))
+  after None = refused bad_image
+  after (Some σ) = guarded (answer_of s image σ (judgement σ verdict s))
 
-  row_202_is : (σ : Store) → decode image ≡ some σ → row_202 σ verdict ≡ not (is_verdict image verdict)
+  row_202_is : (σ : Store) → decode image ≡ Some σ → row_202 σ verdict ≡ not (is_verdict image verdict)
   unfolding row_202
   row_202_is σ d = ap (λ (n : ℕ). not (eqb (length verdict) n && all_of (λ v. leb v 1) verdict)) (sym (count_of_anchors image σ d))
 
@@ -65,57 +60,61 @@ module _ (s image verdict reply next : List ℕ) where
           (given_if (ltb (length reply) reply_room || ltb (length next) image_room) (refused small_buffer)
           (given_if (ltb max_message (length s)) (refused long_message)
           (after o))))
-      go none d = refl
-      go (some σ) d = rw (row_202_is σ d)
+      go None d = refl
+      go (Some σ) d = rw (row_202_is σ d)
 
-  -- what a status says that the rows 201 to 204 have given
-  pub record Housed (status : Status) : Type 0 where
-    pub outcome : call s image verdict (length reply) (length next) ≡ given_if (refuses status) (refused status) (after (decode image))
-    pub passes : refuses status ≡ false → Rooms s reply next × Stored image
+  -- what the call is, by what the house refusals have given
+  by_house : Result (Unit {0}) Status → Outcome
+  by_house (Err status) = refused status
+  by_house (Ok _) = after (decode image)
 
-  -- from the code's tests, and its status after each row
-  module _ {x y z : Bool} (i : x ≡ is_image image) (v : y ≡ is_verdict image verdict) (m : z ≡ (ltb (length reply) reply_room || ltb (length next) image_room))
-      {c1 c2 c3 c4 : Status} (r1 : c1 ≡ or_status success (not x) bad_image) (r2 : c2 ≡ or_status c1 (not y) bad_verdict) (r3 : c3 ≡ or_status c2 z small_buffer)
-      (r4 : c4 ≡ or_status c3 (ltb max_message (length s)) long_message) where
-    given_first : call s image verdict (length reply) (length next) ≡ given_if (refuses c4) (refused c4) (after (decode image))
-    given_first =
-        rows
-        ∙ first_row refused _
-        ∙ row_if refused _ _ r1 (ap not i) refl _
-        ∙ row_if refused _ _ r2 (ap not v) refl _
-        ∙ row_if refused _ _ r3 m refl _
-        ∙ row_if refused _ _ r4 refl refl _
+  by_row : (b : Bool) (status : Status) (rest : Result (Unit {0}) Status) → by_house (given_if b (Err status) rest) ≡ given_if b (refused status) (by_house rest)
+  unfolding by_house given_if
+  by_row true status rest = refl
+  by_row false status rest = refl
 
-    none_applies : refuses c4 ≡ false → Rooms s reply next × Stored image
-    none_applies h =
-        let p4 = row_passes c3 long_message r4 refl h in
-        let p3 = row_passes c2 small_buffer r3 refl p4.0 in
-        let p2 = row_passes c1 bad_verdict r2 refl p3.0 in
-        let p1 = row_passes success bad_image r1 refl p2.0 in
-        let t = neither (ltb (length reply) reply_room) (ltb (length next) image_room) (sym m ∙ p3.1) in (
+  row_past : (b : Bool) (status : Status) (rest : Result (Unit {0}) Status) → given_if b (Err status) rest ≡ Ok tt → (b ≡ false) × (rest ≡ Ok tt)
+  unfolding given_if
+  row_past true status rest e = absurd (true≢false (ap is_err e))
+  row_past false status rest e = (refl, e)
+
+  decided : call s image verdict (length reply) (length next) ≡ by_house (admitted s image verdict (length reply) (length next))
+  unfolding admitted by_house
+  decided =
+      rows
+      ∙ sym
+      (by_row _ _ _
+      ∙ ap (given_if _ _)
+      (by_row _ _ _ ∙ ap (given_if _ _) (by_row _ _ _ ∙ ap (given_if _ _) (by_row _ _ _))))
+
+  module _ {r : Result (Unit {0}) Status} (is : r ≡ admitted s image verdict (length reply) (length next)) where
+    pub admits : r ≡ Ok tt → Rooms s reply next × Stored image
+    unfolding admitted
+    admits e =
+        let p1 = row_past _ _ _ (sym is ∙ e) in
+        let p2 = row_past _ _ _ p1.1 in
+        let p3 = row_past _ _ _ p2.1 in
+        let p4 = row_past _ _ _ p3.1 in
+        let t = neither (ltb (length reply) reply_room) (ltb (length next) image_room) p3.0 in (
           record {
-            message = ltb-false max_message (length s) p4.1;
+            message = ltb-false max_message (length s) p4.0;
             reply = ltb-false (length reply) reply_room t.0;
             next = ltb-false (length next) image_room t.1;
           },
-          stored image (sym i ∙ not-false x p1.1),
+          stored image (not-false _ p1.0),
         )
 
-    pub housed : Housed c4
-    housed = record { outcome = given_first; passes = none_applies }
-
-  module _ {status : Status} (given : Housed status) {r : Answer} where
-    pub call_refused : refuses status ≡ true → r ≡ house_refusal status → Promise s image verdict reply next r reply next
-    unfolding given_if
-    call_refused h a =
-        ap (λ (r : Answer). result_of r reply next) a
+    pub call_refused : {status : Status} {a : Answer} → r ≡ Err status → a ≡ house_refusal status → Promise s image verdict reply next a reply next
+    unfolding by_house
+    call_refused {status} e h =
+        ap (λ (a : Answer). result_of a reply next) h
         ∙ refused_leaves status reply next
-        ∙ ap (λ (o : Outcome). result_for o reply next) (sym (given.outcome ∙ rw h))
+        ∙ ap (λ (o : Outcome). result_for o reply next) (sym (decided ∙ ap by_house (sym is ∙ e)))
 
-    pub call-answer : {reply' next' : List ℕ} → refuses status ≡ false
-        → ((σ : Store) → decode image ≡ some σ → result_of r reply' next' ≡ result_for (guarded (answer_of s image σ (judgement σ verdict s))) reply next)
-        → Promise s image verdict reply next r reply' next'
-    unfolding given_if after
-    call-answer h f =
-        let g = (given.passes h).1 in
-        f g.store g.decodes ∙ ap (λ (o : Outcome). result_for o reply next) (sym (given.outcome ∙ rw (h, g.decodes)))
+    pub call-answer : {a : Answer} {reply' next' : List ℕ} → r ≡ Ok tt
+        → ((σ : Store) → decode image ≡ Some σ → result_of a reply' next' ≡ result_for (guarded (answer_of s image σ (judgement σ verdict s))) reply next)
+        → Promise s image verdict reply next a reply' next'
+    unfolding by_house after
+    call-answer e f =
+        let g = (admits e).1 in
+        f g.store g.decodes ∙ ap (λ (o : Outcome). result_for o reply next) (sym (decided ∙ ap by_house (sym is ∙ e) ∙ rw g.decodes))

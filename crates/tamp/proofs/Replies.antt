@@ -1,9 +1,9 @@
 -- The reply as the code makes it is the reply of the rule book's answer.
+use Rattle.std.specs.Prelude.{Some}
 use Prim.Native.Nat.{ℕ, zero, suc, ◌+◌, ◌≤◌, ◌<◌}
 use native.Mathlib.Omega.{arith}
 use mathlib.Core.Bool.{true, false}
 use mathlib.Core.List.{List, [], ◌∷◌, ◌++◌, map, map-map, map-id}
-use mathlib.Core.Option.{some}
 use mathlib.Core.Path.{◌≡◌, refl, sym, ap, ap₂, ◌∙◌}
 use lib.ListN.{length, take, length-map, length-append}
 use lib.Seq.{take_at, length-take-le}
@@ -62,12 +62,12 @@ module _ (s : List ℕ) (q : Request) (i : ℕ) (σ : Store) where
   Lists image =
       response_of (encoding s q.msgref) image ≡ status_response (encoding s q.msgref) (identifiers after) after.communities
 
-  decoded_lists : (image : List ℕ) (τ : Store) → decode image ≡ some τ
+  decoded_lists : (image : List ℕ) (τ : Store) → decode image ≡ Some τ
       → response_of (encoding s q.msgref) image ≡ status_response (encoding s q.msgref) (identifiers τ) τ.communities
   decoded_lists image τ d = ap₂ (status_response (encoding s q.msgref)) (identifiers_of image τ d) (parts image τ d).communities
 
   -- the image as given does, and so does the next store of a Query
-  pub given_lists : (image : List ℕ) → decode image ≡ some σ → Lists image
+  pub given_lists : (image : List ℕ) → decode image ≡ Some σ → Lists image
   given_lists image d = decoded_lists image σ d ∙ listed-stays (status_response (encoding s q.msgref)) i q.number σ
 
   pub left_lists : well_formed (effect s q i σ).store ≡ true → q.kind ≡ StatusQuery → Lists (encode (effect s q i σ).store)

@@ -1,6 +1,5 @@
 -- Demand 3 for the code: over any list of calls of `tamp_call`, each on the image that the one before it left.
-use Rattle.std.specs.Prelude.{ℕ, true, false, List, [], ◌∷◌, map, ◌≡◌, length, take, leb}
-use Rattle.std.proofs.Math.Option.{some}
+use Rattle.std.specs.Prelude.{ℕ, true, false, List, [], ◌∷◌, map, ◌≡◌, length, take, leb, Some}
 use Rattle.octets.specs.Octets.{Octets}
 use Rattle.rights.specs.Rights.{Content}
 use Rattle.store.specs.Store.{Store}
@@ -46,6 +45,6 @@ inputs m =
 -- demand 3 (protocol, specs/Demand3) of what the calls left
 abbrev pub Demand3OfCode : Type 0
 Demand3OfCode =
-    (image : List ℕ) (σ : Store) → Octets image → decode image ≡ some σ →
+    (image : List ℕ) (σ : Store) → Octets image → decode image ≡ Some σ →
     (content : Content) (calls : List Made) → Kept image calls → Unauthorised content image (map inputs calls) →
     authorising content (records_of (after_all image calls)) ≡ authorising content (records_of image)

@@ -2,7 +2,6 @@
 #![tactic(auto)]
 
 ghost use Rattle.std.specs.Prelude.{◌≡◌, ◌&&◌, ◌||◌, List, ℕ, ◌≤◌, length, leb, ltb, eqb};
-ghost use Rattle.std.proofs.Math.Option.{some};
 ghost use Rattle.octets.specs.Limits.{image_room, reply_room, max_message, max_updates};
 ghost use Rattle.octets.specs.Lists.{all_of};
 ghost use Rattle.octets.specs.declared.Status.{Status};
@@ -11,10 +10,10 @@ ghost use Rattle.store.specs.Image.{decode};
 ghost use Rattle.store.specs.Contract.Parts.{anchor_count};
 ghost use Rattle.protocol.specs.Call.{answer_of, guarded, refusal_reply};
 ghost use Rattle.tamp.specs.Left.{result_of, result_for, Promise, house_refusal as refusal_of, answer as answerWith};
-ghost use Rattle.tamp.specs.Contract.Given.{Rooms, Stored, Known, as_judgement, offset_of, Does};
+ghost use Rattle.tamp.specs.Contract.Given.{admitted, Rooms, Stored, Known, as_judgement, offset_of, Does};
 ghost use Rattle.tamp.specs.Contract.Reply.{request_reply, reply_with, Sizes, Put};
 
-use accept::Acceptance;
+use accept::Signer;
 use apply::Done;
 use envelope::Refusal;
 use message::Request;
@@ -57,32 +56,18 @@ impl Answer {
     }
 }
 
-// 202: no octet is above 1.
-fn is_binary(verdict: &[u8]) -> bool
-    ensures { result ≡ all_of (λ v. leb v 1) verdict.now }
-{
-    let mut i = 0;
-    while i < verdict.len() {
-        if 1 < verdict[i] {
-            return false;
-        }
-        i += 1;
-    }
-    true
-}
-
 // 202: the verdict has an octet for each anchor, 0 or 1.
 fn is_verdict(image: &[u8], verdict: &[u8]) -> bool
     ensures { result ≡ eqb (length verdict.now) (anchor_count image.now) && all_of (λ v. leb v 1) verdict.now }
 {
-    (verdict.len() == store::anchor_count(image)) & is_binary(verdict)
+    verdict.len() == store::anchor_count(image) && verdict.iter().all(|v| *v <= 1)
 }
 
 // 203: the reply buffer is under 10,240 octets or the next store buffer under 33,717.
 fn is_small(reply: usize, next: usize) -> bool
     ensures { result ≡ (ltb reply reply_room || ltb next image_room) }
 {
-    (reply < octets::REPLY_ROOM) | (next < octets::IMAGE_ROOM)
+    reply < octets::REPLY_ROOM || next < octets::IMAGE_ROOM
 }
 
 // How long the reply to a request is. 205 is decided by it, before anything is written; numbers are no part of a Query's response.
@@ -165,20 +150,20 @@ fn put_refusal(s: &[u8], r: Refusal, reply: &mut [u8]) -> usize
 }
 
 // How long the reply is.
-fn reply_size(s: &[u8], j: Acceptance, image: &[u8]) -> usize
+fn reply_size(s: &[u8], j: Result<(Request, Signer), Refusal>, image: &[u8]) -> usize
     requires { (length s.now ≤ max_message) × (length image.now ≤ image_room) }
     ensures { Sizes s.now j image.now result }
 {
     match j {
-        Acceptance::Refused(r) => refusal_size(s, r),
-        Acceptance::Accepted(q, _) => request_size(s, q, image),
+        Err(r) => refusal_size(s, r),
+        Ok((q, _)) => request_size(s, q, image),
     }
 }
 
 // Writes it. Gives its length.
 fn put_reply<'a>(
     s: &'a [u8],
-    j: Acceptance,
+    j: Result<(Request, Signer), Refusal>,
     image: &'a [u8],
     status: Status,
     codes: &'a [u8],
@@ -189,18 +174,24 @@ fn put_reply<'a>(
     ensures { Put (reply_with s.now j image.now status codes.now) reply.old result reply.new }
 {
     match j {
-        Acceptance::Refused(r) => put_refusal(s, r, reply),
-        Acceptance::Accepted(q, _) => put_request(s, q, image, status, codes, reply),
+        Err(r) => put_refusal(s, r, reply),
+        Ok((q, _)) => put_request(s, q, image, status, codes, reply),
     }
 }
 
 // The status of the call and the next store: a refused message leaves the store alone.
-fn effect(s: &[u8], j: Acceptance, image: &[u8], next: &mut [u8], codes: &mut [u8]) -> Done
+fn effect(
+    s: &[u8],
+    j: Result<(Request, Signer), Refusal>,
+    image: &[u8],
+    next: &mut [u8],
+    codes: &mut [u8],
+) -> Done
     requires { Known s.now j image.now next.old × (max_updates ≤ length codes.old) }
     ensures { Does s.now j image.now next.old codes.old result next.new codes.new }
 {
     match j {
-        Acceptance::Refused(r) => {
+        Err(r) => {
             octets::copy_to(next, 0, image);
             let status = r.status;
             Done {
@@ -208,24 +199,30 @@ fn effect(s: &[u8], j: Acceptance, image: &[u8], next: &mut [u8], codes: &mut [u
                 len: image.len(),
             }
         }
-        Acceptance::Accepted(q, w) => apply::effect(s, q, w, image, next, codes),
+        Ok((q, w)) => apply::effect(s, q, w, image, next, codes),
     }
 }
 
 // 02, E3: the offset that the refusing row has; an accepted message has none.
-fn offset_of(j: Acceptance) -> usize
+fn offset_of(j: Result<(Request, Signer), Refusal>) -> usize
     ensures { result ≡ offset_of j }
 {
     match j {
-        Acceptance::Refused(r) => r.offset,
-        Acceptance::Accepted(_, _) => 0,
+        Err(r) => r.offset,
+        Ok((_, _)) => 0,
     }
 }
 
 // The answer to a message: effect, reply and next store, or 205.
-fn respond(s: &[u8], j: Acceptance, image: &[u8], reply: &mut [u8], next: &mut [u8]) -> Answer
+fn respond(
+    s: &[u8],
+    j: Result<(Request, Signer), Refusal>,
+    image: &[u8],
+    reply: &mut [u8],
+    next: &mut [u8],
+) -> Answer
     requires { Rooms s.now reply.old next.old × Stored image.now × Known s.now j image.now next.old }
-    ensures { (σ : Store) → decode image.now ≡ some σ →
+    ensures { (σ : Store) → decode image.now ≡ Some σ →
         result_of result reply.new next.new
         ≡ result_for (guarded (answer_of s.now image.now σ (as_judgement j))) reply.old next.old }
 {
@@ -240,7 +237,24 @@ fn respond(s: &[u8], j: Acceptance, image: &[u8], reply: &mut [u8], next: &mut [
     Answer::reply(status, offset_of(j), n, len)
 }
 
-// The call: 201 to 204 in their order, then 205 or the answer. The rows after 201 are computed on any octets.
+// The house refusals 201 to 204, in their order.
+#[tactic(auto, unfolding(crate::specs::Contract::Given::admitted, octets::specs::First::given_if))]
+fn admit(
+    message: &[u8],
+    image: &[u8],
+    verdict: &[u8],
+    reply: usize,
+    next: usize,
+) -> Result<(), Status>
+    ensures { result ≡ admitted message.now image.now verdict.now reply next }
+{
+    Status::BAD_IMAGE.given_if(!image::is_image(image))?;
+    Status::BAD_VERDICT.given_if(!is_verdict(image, verdict))?;
+    Status::SMALL_BUFFER.given_if(is_small(reply, next))?;
+    Status::LONG_MESSAGE.given_if(octets::MAX_MESSAGE < message.len())
+}
+
+// The call: 201 to 204, then 205 or the answer. (Five slices, and no struct of them: these are the arguments of the C interface.)
 pub fn tamp_call(
     message: &[u8],
     image: &[u8],
@@ -258,19 +272,9 @@ pub fn tamp_call(
         reply.new
         next.new }
 {
-    let status = Status::SUCCESS
-        .or_if(!image::is_image(image), Status::BAD_IMAGE)
-        .or_if(!is_verdict(image, verdict), Status::BAD_VERDICT)
-        .or_if(is_small(reply.len(), next.len()), Status::SMALL_BUFFER)
-        .or_if(octets::MAX_MESSAGE < message.len(), Status::LONG_MESSAGE);
-    if status.refuses() {
+    if let Err(status) = admit(message, image, verdict, reply.len(), next.len()) {
         return Answer::refusal(status);
     }
-    respond(
-        message,
-        accept::judge(message, image, verdict),
-        image,
-        reply,
-        next,
-    )
+    let j = accept::judge(message, image, verdict);
+    respond(message, j, image, reply, next)
 }

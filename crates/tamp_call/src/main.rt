@@ -5,35 +5,27 @@
 use std::io;
 use std::io::{Read, Write};
 
-// So many octets are printed at a time.
+// So many octets are printed at a time, each as two digits.
 const CHUNK: usize = 2048;
 
-// Octets in hex.
+// Octets in hex. (By `hex_text`, which is proved to write these digits, and no `{:02X}`, of which no clause says what it writes.)
 fn print_octets<W: Write>(out: &mut W, o: &[u8]) -> io::Result<()> {
-    let mut text = [0u8; 4096];
-    let mut i = 0;
-    while i < o.len() {
-        let n = listing::hex_text(&mut text, octets::slice(o, i, i + CHUNK));
+    let mut text = [0u8; 2 * CHUNK];
+    for part in o.chunks(CHUNK) {
+        let n = listing::hex_text(&mut text, part);
         out.write_all(&text[..n])?;
-        i += CHUNK;
     }
     Ok(())
 }
 
 // A line of a word and octets in hex, - where there are none.
-fn print_line<W: Write>(out: &mut W, word: &[u8], o: &[u8]) -> io::Result<()> {
-    out.write_all(word)?;
-    if o.len() == 0 {
-        out.write_all(b"-")?;
+fn print_line<W: Write>(out: &mut W, word: &str, o: &[u8]) -> io::Result<()> {
+    write!(out, "{word} ")?;
+    if o.is_empty() {
+        write!(out, "-")?;
     }
     print_octets(out, o)?;
-    out.write_all(b"\n")
-}
-
-// A line of a word and a number.
-fn print_number<W: Write>(out: &mut W, word: &[u8], n: u64) -> io::Result<()> {
-    out.write_all(word)?;
-    writeln!(out, "{n}")
+    writeln!(out)
 }
 
 fn print_call<W: Write>(
@@ -45,47 +37,15 @@ fn print_call<W: Write>(
     next: &mut [u8],
 ) -> io::Result<()> {
     let r = tamp::tamp_call(message, image, verdict, reply, next);
-    print_number(out, b"status ", r.number as u64)?;
-    print_number(out, b"offset ", r.offset)?;
-    print_line(
-        out,
-        b"reply ",
-        octets::slice(reply, 0, r.reply_len as usize),
-    )?;
-    print_line(out, b"store ", octets::slice(next, 0, r.next_len as usize))
+    writeln!(out, "status {}", r.number)?;
+    writeln!(out, "offset {}", r.offset)?;
+    print_line(out, "reply", octets::slice(reply, 0, r.reply_len as usize))?;
+    print_line(out, "store", octets::slice(next, 0, r.next_len as usize))
 }
 
 fn bad_call<W: Write>(out: &mut W) -> io::Result<bool> {
-    out.write_all(b"bad call\n")?;
+    writeln!(out, "bad call")?;
     Ok(false)
-}
-
-// The call with so much of the two buffers lent; whether they have it.
-fn lend<W: Write>(
-    out: &mut W,
-    message: &[u8],
-    image: &[u8],
-    verdict: &[u8],
-    reply: &mut [u8],
-    r: usize,
-    next: &mut [u8],
-    x: usize,
-) -> io::Result<bool> {
-    if reply.len() < r {
-        return bad_call(out);
-    }
-    if next.len() < x {
-        return bad_call(out);
-    }
-    print_call(
-        out,
-        message,
-        image,
-        verdict,
-        &mut reply[..r],
-        &mut next[..x],
-    )?;
-    Ok(true)
 }
 
 // The number at a place of a call's head.
@@ -112,16 +72,22 @@ fn call<R: Read, W: Write>(input: &mut R, out: &mut W, head: &[u8; 20]) -> io::R
     if !reader::fill(input, &mut verdict, v)? {
         return bad_call(out);
     }
-    lend(
+    let Some(reply) = reply.get_mut(..number(head, 12)) else {
+        return bad_call(out);
+    };
+    let Some(next) = next.get_mut(..number(head, 16)) else {
+        return bad_call(out);
+    };
+    // by `octets::slice`: with `&message[..m]` the goal `slice_bounds-print_call-end` stays open
+    print_call(
         out,
         octets::slice(&message, 0, m),
         octets::slice(&image, 0, n),
         octets::slice(&verdict, 0, v),
-        &mut reply,
-        number(head, 12),
-        &mut next,
-        number(head, 16),
-    )
+        reply,
+        next,
+    )?;
+    Ok(true)
 }
 
 // Reads a call and prints its answer; whether to go on.
@@ -138,6 +104,7 @@ fn next<R: Read, W: Write>(input: &mut R, out: &mut W) -> io::Result<bool> {
 }
 
 // A proved loop has to end, and nothing says that the input does: it counts its turns up to a number that no run uses up.
+// (tamp_read has the same loop. A shared one would take its step as a closure over input and output, and be no shorter.)
 fn main(rt: HostRuntime) -> io::Result<()> {
     let mut input = rt.stdin();
     let mut out = rt.stdout();

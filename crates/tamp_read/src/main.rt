@@ -3,74 +3,51 @@
 #![tactic(auto)]
 
 use envelope::Refusal;
-use message::{Received, Request};
+use message::Request;
 use std::io;
 use std::io::{Read, Write};
 use syntax::TampType;
 
-// A digit of a number below 16.
-fn digit(n: u8) -> u8 {
-    if n < 10 {
-        return 48 + n;
+// The name of a message's type (RFC 5934, id-ct-TAMP-..).
+fn type_name(kind: TampType) -> &'static str {
+    match kind {
+        TampType::StatusQuery => "statusQuery",
+        TampType::Update => "update",
+        TampType::CommunityUpdate => "communityUpdate",
+        TampType::SeqNumAdjust => "seqNumAdjust",
     }
-    if n < 16 {
-        return 55 + n;
-    }
-    63
 }
 
 fn print_octets<W: Write>(out: &mut W, o: &[u8]) -> io::Result<()> {
     for x in o {
-        let pair = [digit(*x / 16), digit(*x % 16)];
-        out.write_all(&pair)?;
+        write!(out, "{x:02X}")?;
     }
     Ok(())
 }
 
-fn print_field<W: Write>(out: &mut W, name: &[u8], n: u64) -> io::Result<()> {
-    out.write_all(name)?;
-    write!(out, "{n}")
-}
-
 fn print_refusal<W: Write>(out: &mut W, r: Refusal) -> io::Result<()> {
-    let status = r.status;
-    print_field(out, b"status ", status.number as u64)?;
-    print_field(out, b" offset ", r.offset as u64)?;
-    out.write_all(b"\n")
-}
-
-// The name of a message's type (RFC 5934, id-ct-TAMP-..).
-fn print_kind<W: Write>(out: &mut W, kind: TampType) -> io::Result<()> {
-    match kind {
-        TampType::StatusQuery => out.write_all(b"statusQuery"),
-        TampType::Update => out.write_all(b"update"),
-        TampType::CommunityUpdate => out.write_all(b"communityUpdate"),
-        TampType::SeqNumAdjust => out.write_all(b"seqNumAdjust"),
-    }
+    writeln!(out, "status {} offset {}", r.status.number, r.offset)
 }
 
 fn print_request<W: Write>(out: &mut W, s: &[u8], q: Request) -> io::Result<()> {
-    let kind = q.kind;
-    print_kind(out, kind)?;
-    out.write_all(b" signer ")?;
+    write!(out, "{} signer ", type_name(q.kind))?;
     print_octets(out, message::key_identifier(s, q))?;
-    print_field(out, b" number ", q.number)?;
-    if let TampType::Update = kind {
-        let entries = message::entry_count(s, q.updates);
-        print_field(out, b" entries ", entries as u64)?;
+    write!(out, " number {}", q.number)?;
+    if let TampType::Update = q.kind {
+        write!(out, " entries {}", message::entry_count(s, q.updates))?;
     }
-    out.write_all(b"\n")
+    writeln!(out)
 }
 
 fn print_message<W: Write>(out: &mut W, s: &[u8]) -> io::Result<()> {
     match message::receive(s) {
-        Received::Asks(q) => print_request(out, s, q),
-        Received::Refused(r) => print_refusal(out, r),
+        Ok(q) => print_request(out, s, q),
+        Err(r) => print_refusal(out, r),
     }
 }
 
 fn bad_input<W: Write>(out: &mut W) -> io::Result<bool> {
-    out.write_all(b"bad input\n")?;
+    writeln!(out, "bad input")?;
     Ok(false)
 }
 
@@ -84,12 +61,12 @@ fn next<R: Read, W: Write>(input: &mut R, out: &mut W) -> io::Result<bool> {
     if got != 4 {
         return bad_input(out);
     }
-    let n = octets::get_be(&size, 0, 4) as usize;
+    let n = u32::from_be_bytes(size) as usize;
     let mut buffer = [0u8; 8192];
     if !reader::fill(input, &mut buffer, n)? {
         return bad_input(out);
     }
-    print_message(out, octets::slice(&buffer, 0, n))?;
+    print_message(out, &buffer[..n])?;
     Ok(true)
 }
 

@@ -1,13 +1,7 @@
 -- `accept::is_unauthorised` meets its contract. Assumes nothing.
-use mathlib.Core.Bool.{Bool, not}
-use mathlib.Core.Path.{ap, ◌∙◌}
-use Rattle.der.specs.Fit.{applies_if}
-use Rattle.accept.proofs.Rows.{apex_may, other-may}
+use borrow.Author.Tests.{eq-eqb}
+use Rattle.accept.proofs.Rows.{apex_may}
 use Rattle.accept.proofs.is_unauthorised.Goals as goal
 
-pub returns-then-w-eq0 : goal.returns-then-w-eq0
-returns-then-w-eq0 c = apex_may _ _ _ _ c.if-w-eq0.true
-
-pub returns : goal.returns
-returns c =
-    ap (λ (b : Bool). applies_if (not b)) c.authorises.ensures ∙ other-may _ _ _ _ c.if-w-eq0.false c.constraints_of-constraints.ensures c.contents-type_octets.ensures
+pub returns-else-w-ne0 : goal.returns-else-w-ne0
+returns-else-w-ne0 c = rw (eq-eqb _ _ c.if-w-ne0.false) (apex_may _ _ _ _ c.if-w-ne0.false)

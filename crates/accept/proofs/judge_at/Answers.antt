@@ -1,20 +1,25 @@
--- The status of the rows, and what is refused or accepted by it.
-use mathlib.Core.Path.{sym, ◌∙◌}
-use Rattle.accept.proofs.Rows.{by_status, weigh_refuses, weigh_accepts}
+-- `accept::judge_at` meets its contract. Assumes nothing.
+use Rattle.std.proofs.Common.{rules}
+use Rattle.accept.proofs.Unfolded.{rows}
+use Rattle.accept.proofs.Rows.{row_11_at, row_21_at}
 use Rattle.accept.proofs.judge_at.Goals as goal
 
-pub returns-then-refuses : goal.returns-then-refuses
-returns-then-refuses c below =
-    let by_rows =
-    by_status _ _ _ _ below c.signer_at-w.ensures c.target_octets-t.ensures _ _ c.is_unsupported.ensures c.names_device.ensures
-    c.is_unauthorised.ensures c.is_number_refused.ensures c.or_if.ensures c.or_if-2.ensures c.or_if-3.ensures c.or_if-status.ensures
-    in
-    c.refuse.ensures ∙ weigh_refuses _ _ _ _ by_rows (sym c.refuses.ensures ∙ c.if-refuses.true)
+pub returns-in_err-row-3 : goal.returns-in_err-row-3
+unfolding rows
+returns-in_err-row-3 c below =
+    let r11 = row_11_at c.args.image.now c.args.i below c.signer_at-w.ensures c.args.s.now c.args.q in
+    search (r11, rules)
+
+pub returns-in_err-row-4 : goal.returns-in_err-row-4
+unfolding rows
+returns-in_err-row-4 c below =
+    let r11 = row_11_at c.args.image.now c.args.i below c.signer_at-w.ensures c.args.s.now c.args.q in
+    let r21 = row_21_at c.args.image.now c.args.i below c.signer_at-w.ensures c.args.s.now c.args.q in
+    search (r11, r21, rules)
 
 pub returns : goal.returns
+unfolding rows
 returns c below =
-    let by_rows =
-    by_status _ _ _ _ below c.signer_at-w.ensures c.target_octets-t.ensures _ _ c.is_unsupported.ensures c.names_device.ensures
-    c.is_unauthorised.ensures c.is_number_refused.ensures c.or_if.ensures c.or_if-2.ensures c.or_if-3.ensures c.or_if-status.ensures
-    in
-    weigh_accepts c.args.image.now c.args.q c.args.i c.or_if-status.result by_rows c.signer_at-w.ensures (sym c.refuses.ensures ∙ c.if-refuses.false)
+    let r11 = row_11_at c.args.image.now c.args.i below c.signer_at-w.ensures c.args.s.now c.args.q in
+    let r21 = row_21_at c.args.image.now c.args.i below c.signer_at-w.ensures c.args.s.now c.args.q in
+    search (r11, r21, rules)

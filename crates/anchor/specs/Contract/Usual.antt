@@ -1,5 +1,6 @@
 -- What the path for the usual content constraints promises where it says yes. Where it says no, it promises nothing, and the plain code decides.
-use Rattle.std.specs.Prelude.{ℕ, suc, ◌-◌, ◌≤◌, true, false, List, [], ◌∷◌, ◌≡◌, length, ltb}
+use Rattle.anchor.specs.declared.AnchorFault.{AnchorFault}
+use Rattle.std.specs.Prelude.{ℕ, suc, ◌-◌, ◌≤◌, true, false, List, [], ◌∷◌, ◌≡◌, length, ltb, Result, Ok, Err}
 use Rattle.octets.specs.Limits.{max_anchor_octets, max_entries, max_attributes, max_values}
 use Rattle.octets.specs.First.{given_if}
 use Rattle.octets.specs.Octets.{octet, ordered, distinct}
@@ -7,7 +8,6 @@ use Rattle.octets.specs.Lists.{any_of}
 use Rattle.der.specs.declared.Element.{Element}
 use Rattle.der.specs.Element.{elements, encoding, inside, with_tag}
 use Rattle.der.specs.Fit.{kept, and_then, held, each}
-use Rattle.der.specs.declared.Fit.TheVariants.{Fits}
 use Rattle.der.specs.Check.{sorted_in, der as derOf}
 use Rattle.syntax.specs.Grammar.{Syntax, free, end, obeys, optional, many, tagged, equals}
 use Rattle.syntax.specs.Asn.{AttrConstraint, AttrConstraintList, ContentTypeConstraint, CMSContentConstraints}
@@ -16,8 +16,7 @@ use Rattle.rights.specs.Constraints.{attr_constraint, content_type_constraint, c
 use Rattle.der.specs.declared.Compared.TheVariants.{Types, Encodings}
 use Rattle.der.specs.Keys.{keys_from, keys_in}
 use Rattle.anchor.specs.declared.faults.Faults.{Faults}
-use Rattle.anchor.specs.declared.AnchorCheck.{AnchorCheck}
-use Rattle.anchor.specs.declared.AnchorCheck.TheVariants as judged
+use Rattle.anchor.specs.declared.AnchorFault.TheVariants as fault
 use Rattle.anchor.specs.Judge.{conforms, identifier_outside}
 use Rattle.anchor.specs.Contract.Faults.{is_long, no_faults, faults_in, attribute_faults, entry_faults, rights_faults}
 
@@ -35,6 +34,18 @@ attribute_fault v a = attribute_faults (attr_constraint v a)
 
 abbrev pub entry_fault : List ℕ → Element → Faults
 entry_fault v e = entry_faults (content_type_constraint v e)
+
+-- what the members of a list are: the levels left for their contents, the syntax of these, and the faults that a member has
+pub record Kind : Type 0 where
+  pub depth : ℕ
+  pub syntax : Syntax
+  pub faults : Element → Faults
+
+abbrev pub attributes : List ℕ → Kind
+attributes v = record { depth = 12; syntax = AttrConstraint; faults = attribute_fault v }
+
+abbrev pub entries : List ℕ → Kind
+entries v = record { depth = 14; syntax = ContentTypeConstraint; faults = entry_fault v }
 
 -- a member of which 34 and 17 find nothing: its contents are as g says, with d levels left, and it has no faults
 pub record MemberOk (d : ℕ) (g : Syntax) (f : Element → Faults) (v : List ℕ) (e : Element) : Type 0 where
@@ -67,7 +78,7 @@ pub record ValueOk (v : List ℕ) (former e : Element) : Type 0 where
   pub short : is_long v e ≡ false
 
 pub record ValuesOk (v : List ℕ) (at stop : ℕ) : Type 0 where
-  pub der : each (λ former e. and_then (derOf 11 v e) (held e.at (sorted_in 49 v former e))) (elements v at stop) ≡ Fits
+  pub der : each (λ former e. and_then (derOf 11 v e) (held e.at (sorted_in 49 v former e))) (elements v at stop) ≡ Ok tt
   pub differ : distinct (keys_from Encodings v at stop) ≡ true
   pub few : length (elements v at stop) ≤ max_values
   pub short : any_of (is_long v) (elements v at stop) ≡ false
@@ -92,6 +103,6 @@ pub record ConstraintsOk (v : List ℕ) : Type 0 where
   pub faults : rights_faults (constraints_rights v) ≡ no_faults
 
 -- what is left to judge then: the sizes of t and of its identifier k
-abbrev pub judge_sizes : List ℕ → List ℕ → AnchorCheck
+abbrev pub judge_sizes : List ℕ → List ℕ → Result (Unit {0}) AnchorFault
 judge_sizes t k =
-    given_if (ltb max_anchor_octets (length t)) judged.AnchorOctets (given_if (identifier_outside k) judged.KeyIdentifierOctets judged.Passes)
+    given_if (ltb max_anchor_octets (length t)) (Err fault.AnchorOctets) (given_if (identifier_outside k) (Err fault.KeyIdentifierOctets) (Ok tt))

@@ -1,6 +1,5 @@
 -- What an accepted message does to the lent buffers, by the rule book's effect on the store with the signer's number.
-use Rattle.std.specs.Prelude.{ℕ, ◌≤◌, ◌<◌, true, false, List, [], ◌≡◌, length, ltb}
-use Rattle.std.proofs.Math.Option.{some}
+use Rattle.std.specs.Prelude.{ℕ, ◌≤◌, ◌<◌, true, false, List, [], ◌≡◌, length, ltb, Some}
 use Rattle.octets.specs.declared.Status.{Status}
 use Rattle.octets.specs.Limits.{image_room, max_number, max_updates}
 use Rattle.octets.specs.Octets.{placed}
@@ -22,7 +21,7 @@ use Rattle.apply.specs.Contract.Update.{codes_of}
 -- the image has a store, w is one of its anchors, the number may be stored, and there is room for the largest image
 pub record Signing (q : Request) (w : Signer) (image next : List ℕ) : Type 0 where
   pub store : Store
-  pub decodes : decode image ≡ some store
+  pub decodes : decode image ≡ Some store
   pub signer : w ≡ signer_at image w.position
   pub inside : w.position < length (anchors store)
   pub small : q.number ≤ max_number
@@ -40,7 +39,7 @@ pub record Writes (σ : Store) (d : List ℕ) (r : ℕ) (d' : List ℕ) : Type 0
 
 -- .. of the image's store with the signer's number
 abbrev pub Renumbered : Request → Signer → List ℕ → List ℕ → ℕ → List ℕ → Type 0
-Renumbered q w image next r next' = (σ : Store) → decode image ≡ some σ → Writes (number_moved q w σ) next r next'
+Renumbered q w image next r next' = (σ : Store) → decode image ≡ Some σ → Writes (number_moved q w σ) next r next'
 
 -- the status and the next store of an effect on that store
 pub record WritesEffect (e : Effect) (next : List ℕ) (r : Done) (next' : List ℕ) : Type 0 where
@@ -48,7 +47,7 @@ pub record WritesEffect (e : Effect) (next : List ℕ) (r : Done) (next' : List 
   pub writes : Writes e.store next r.len next'
 
 abbrev pub Effects : (Store → Effect) → Request → Signer → List ℕ → List ℕ → Done → List ℕ → Type 0
-Effects f q w image next r next' = (σ : Store) → decode image ≡ some σ → WritesEffect (f (number_moved q w σ)) next r next'
+Effects f q w image next r next' = (σ : Store) → decode image ≡ Some σ → WritesEffect (f (number_moved q w σ)) next r next'
 
 -- the statuses that an Update's confirm lists; none where 17 is given for the message as a whole, and none of other messages
 unfoldable pub statuses_of : TampType → List ℕ → Request → Rights → Store → List Status
@@ -62,12 +61,12 @@ statuses_of SeqNumAdjust s q rights σ = []
 -- an octet for each of them
 abbrev pub Codes : List ℕ → Request → Rights → Signer → List ℕ → List ℕ → List ℕ → Type 0
 Codes s q rights w image codes codes' =
-    (σ : Store) → decode image ≡ some σ → codes' ≡ placed codes 0 (codes_of (statuses_of q.kind s q rights (number_moved q w σ)))
+    (σ : Store) → decode image ≡ Some σ → codes' ≡ placed codes 0 (codes_of (statuses_of q.kind s q rights (number_moved q w σ)))
 
 abbrev pub statuses_in : List ℕ → Request → ℕ → Store → List Status
 statuses_in s q i σ = statuses_of q.kind s q (rights_at σ i) (with_number i q.number σ)
 
 -- what the whole message does: the effect of the rule book, and an octet for each status of an entry
 pub record Effected (s : List ℕ) (q : Request) (w : Signer) (image next codes : List ℕ) (r : Done) (next' codes' : List ℕ) : Type 0 where
-  pub does : (σ : Store) → decode image ≡ some σ → WritesEffect (effect s q w.position σ) next r next'
-  pub statuses : (σ : Store) → decode image ≡ some σ → codes' ≡ placed codes 0 (codes_of (statuses_in s q w.position σ))
+  pub does : (σ : Store) → decode image ≡ Some σ → WritesEffect (effect s q w.position σ) next r next'
+  pub statuses : (σ : Store) → decode image ≡ Some σ → codes' ≡ placed codes 0 (codes_of (statuses_in s q w.position σ))

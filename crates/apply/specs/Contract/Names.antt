@@ -1,13 +1,13 @@
 -- What the code of a Community Update reads and leaves.
-use Rattle.std.specs.Prelude.{ℕ, ◌+◌, ◌*◌, ◌≤◌, ◌<◌, true, false, not, List, [], ◌∷◌, ◌++◌, map, ◌≡◌, length, take, leb, ltb}
+use Rattle.std.specs.Prelude.{ℕ, ◌+◌, ◌*◌, ◌≤◌, ◌<◌, true, false, not, List, [], ◌∷◌, ◌++◌, map, ◌≡◌, length, take, leb, ltb, Result, Ok, Err}
+use Rattle.octets.specs.declared.Status.{Status}
+use Rattle.octets.specs.Status.{insufficient_memory}
 use Rattle.octets.specs.Limits.{max_name_octets, max_communities}
 use Rattle.octets.specs.Lists.{all_of, any_of, filter}
 use Rattle.octets.specs.Octets.{octet, member}
 use Rattle.der.specs.Element.{elements, contents}
 use Rattle.store.specs.Image.{encode_name, encode_section}
 use Rattle.store.specs.Contract.Parts.{communities_of}
-use Rattle.apply.specs.declared.community.Grown.{Grown}
-use Rattle.apply.specs.declared.community.Grown.TheVariants.{To, Full}
 
 -- the OIDs of a run, from a place on
 abbrev pub oids_from : List ℕ → ℕ → ℕ → List (List ℕ)
@@ -43,9 +43,9 @@ pub record FewNames (image : List ℕ) : Type 0 where
   pub small : all_of (λ c. leb (length c) max_name_octets) (communities_of image) ≡ true
 
 -- what additions come to, where `kept` were there and `added` come after them: over 16 would remain, or the section with them
-abbrev pub Grows : List (List ℕ) → List (List ℕ) → Grown → List ℕ → Type 0
-Grows kept added (To n) d = Section d n (kept ++ added)
-Grows kept added Full d = max_communities < length (kept ++ added)
+abbrev pub Grows : List (List ℕ) → List (List ℕ) → Result (Unit {0}) Status → ℕ → List ℕ → Type 0
+Grows kept added (Ok _) n d = Section d n (kept ++ added)
+Grows kept added (Err status) n d = (status ≡ insufficient_memory) × (max_communities < length (kept ++ added))
 
 -- "present ones pass"
 abbrev pub not_kept : List (List ℕ) → List (List ℕ) → List (List ℕ)
@@ -59,10 +59,10 @@ pub record Addable (d : List ℕ) (len k : ℕ) (name : List ℕ) : Type 0 where
   pub few : length (kept ++ added) ≤ max_communities
   pub small : length name ≤ max_name_octets
 
-pub record AddsName (d : List ℕ) (len k : ℕ) (name : List ℕ) (r : Grown) (d' : List ℕ) : Type 0 where
+pub record AddsName (d : List ℕ) (len k : ℕ) (name : List ℕ) (r : Result (Unit {0}) Status) (n : ℕ) (d' : List ℕ) : Type 0 where
   pub same_room : length d' ≡ length d
   pub few : octet d' 0 ≤ max_communities
-  pub adds : (kept added : List (List ℕ)) → Section d len (kept ++ added) → length kept ≡ k → Grows kept (added ++ not_kept kept (name ∷ [])) r d'
+  pub adds : (kept added : List (List ℕ)) → Section d len (kept ++ added) → length kept ≡ k → Grows kept (added ++ not_kept kept (name ∷ [])) r n d'
 
 pub record AddableAll (additions : List (List ℕ)) (d : List ℕ) (len : ℕ) : Type 0 where
   pub kept : List (List ℕ)
@@ -70,7 +70,7 @@ pub record AddableAll (additions : List (List ℕ)) (d : List ℕ) (len : ℕ) :
   pub few : length kept ≤ max_communities
   pub small : any_of (λ c. ltb max_name_octets (length c)) additions ≡ false
 
-pub record AddsAll (additions : List (List ℕ)) (d : List ℕ) (len : ℕ) (r : Grown) (d' : List ℕ) : Type 0 where
+pub record AddsAll (additions : List (List ℕ)) (d : List ℕ) (len : ℕ) (r : Result (Unit {0}) Status) (n : ℕ) (d' : List ℕ) : Type 0 where
   pub same_room : length d' ≡ length d
   pub few : octet d' 0 ≤ max_communities
-  pub adds : (kept : List (List ℕ)) → Section d len kept → Grows kept (not_kept kept additions) r d'
+  pub adds : (kept : List (List ℕ)) → Section d len kept → Grows kept (not_kept kept additions) r n d'

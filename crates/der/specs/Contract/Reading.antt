@@ -1,15 +1,13 @@
 -- The steps by which the code reads: the length octets of an element, the next element of a run, the arcs of an OID.
-use Rattle.std.specs.Prelude.{ℕ, ◌+◌, ◌-◌, Bool, true, false, ◌||◌, List, leb, ltb, eqb}
+use Rattle.std.specs.Prelude.{ℕ, ◌+◌, ◌-◌, Bool, true, false, ◌||◌, List, leb, ltb, eqb, Option, Some, None}
 use Rattle.octets.specs.Octets.{octet}
 use Rattle.der.specs.declared.Element.{Element}
-use Rattle.der.specs.declared.read.Length.{Length}
-use Rattle.der.specs.declared.read.Length.TheVariants.{Of, Beyond}
 use Rattle.der.specs.Element.{length_at, contents_at}
 
 -- where the contents begin and how many octets they are, unless they pass the window's end
-unfoldable pub length_in : List ℕ → ℕ → ℕ → Length
+unfoldable pub length_in : List ℕ → ℕ → ℕ → Option (ℕ × ℕ)
 length_in s at stop =
-    elim (leb (contents_at s at + length_at s at) stop) [ true ↦ Of (contents_at s at) (length_at s at) | false ↦ Beyond ]
+    elim (leb (contents_at s at + length_at s at) stop) [ true ↦ Some (contents_at s at, length_at s at) | false ↦ None ]
 
 -- where a run goes on after e: nothing is read after a header that breaks a rule
 unfoldable pub next_at : Element → ℕ → ℕ

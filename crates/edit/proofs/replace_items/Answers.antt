@@ -2,13 +2,6 @@
 use Rattle.edit.proofs.Replaced.{recount_done}
 use Rattle.edit.proofs.replace_items.Goals as goal
 
-pub shape_of-buf : goal.shape_of-buf
-shape_of-buf c =
-    let a = c.args in
-    let done = c.replace.ensures in
-    (recount_done a.buf.now a.len a.at a.n a.head.now a.body.now c.requires.1 c.requires.2 c.requires.3 a.count a.items
-    c.requires.0 done.0 done.1).0
-
 pub returns : goal.returns
 returns c =
     let a = c.args in

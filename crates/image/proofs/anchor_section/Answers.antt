@@ -34,17 +34,17 @@ returns-then-n-gt-MAX_ANCHORS c =
     let room = c.if-image-p.false in
     sym (anchors-some s a.p room n count (omega arith) ∙ section_over read_anchor max_anchors apart s a.p room n count c.if-n-gt-MAX_ANCHORS.true)
 
-pub returns-in_default : goal.returns-in_default
-returns-in_default c =
+pub returns-in_err-e : goal.returns-in_err-e
+returns-in_err-e c =
     let a = c.args in
     let s = a.image.now in
     let n = c.octet_at-n.result in
     let count = c.octet_at-n.ensures.0 in
     let room = c.if-image-p.false in
-    sym
+    ap (rest_at s) c.from_residual.ensures ∙ sym
     (anchors-some s a.p room n count (omega arith)
     ∙ section_broken read_anchor max_anchors apart s a.p room n count c.if-n-gt-MAX_ANCHORS.false
-    (sym (ap (rest_at s) c.in_default.is) ∙ c.anchors_stop.ensures))
+    (sym (ap (rest_at s) c.in_err-e.was) ∙ c.anchors_stop.ensures))
 
 pub returns-then-not-keys_differ : goal.returns-then-not-keys_differ
 returns-then-not-keys_differ c =
@@ -56,7 +56,7 @@ returns-then-not-keys_differ c =
     sym
     (anchors-some s a.p room n count (omega arith)
     ∙ section_fails read_anchor max_anchors apart s a.p room n count c.if-n-gt-MAX_ANCHORS.false _
-    (sym (ap (rest_at s) c.in-Behind.is) ∙ c.anchors_stop.ensures)
+    (sym (ap (rest_at s) c.in_ok-e.was) ∙ c.anchors_stop.ensures)
     (λ l r. keys_read s n (a.p + 1) l _ r ∙ sym c.keys_differ.ensures ∙ not-true _ c.if-not-keys_differ.true-raw))
 
 pub returns : goal.returns
@@ -69,5 +69,5 @@ returns c =
     sym
     (anchors-some s a.p room n count (omega arith)
     ∙ section_holds read_anchor max_anchors apart s a.p room n count c.if-n-gt-MAX_ANCHORS.false _
-    (sym (ap (rest_at s) c.in-Behind.is) ∙ c.anchors_stop.ensures)
+    (sym (ap (rest_at s) c.in_ok-e.was) ∙ c.anchors_stop.ensures)
     (λ l r. keys_read s n (a.p + 1) l _ r ∙ sym c.keys_differ.ensures ∙ not-false _ c.if-not-keys_differ.false-raw))

@@ -28,16 +28,16 @@ returns-then-n-gt-MAX_COMMUNITIES c =
     let room = c.if-image-p.false in
     sym (section_over read_community max_communities distinct s a.p room n count c.if-n-gt-MAX_COMMUNITIES.true)
 
-pub returns-in_default : goal.returns-in_default
+pub returns-in_err-e : goal.returns-in_err-e
 unfolding read_community_section
-returns-in_default c =
+returns-in_err-e c =
     let a = c.args in
     let s = a.image.now in
     let n = c.octet_at-n.result in
     let count = c.octet_at-n.ensures.0 in
     let room = c.if-image-p.false in
-    sym (section_broken read_community max_communities distinct s a.p room n count c.if-n-gt-MAX_COMMUNITIES.false
-    (sym (ap (rest_at s) c.in_default.is) ∙ c.communities_stop.ensures))
+    ap (rest_at s) c.from_residual.ensures ∙ sym (section_broken read_community max_communities distinct s a.p room n count c.if-n-gt-MAX_COMMUNITIES.false
+    (sym (ap (rest_at s) c.in_err-e.was) ∙ c.communities_stop.ensures))
 
 pub returns-then-not-names_differ : goal.returns-then-not-names_differ
 unfolding read_community_section
@@ -49,7 +49,7 @@ returns-then-not-names_differ c =
     let room = c.if-image-p.false in
     sym
     (section_fails read_community max_communities distinct s a.p room n count c.if-n-gt-MAX_COMMUNITIES.false _
-    (sym (ap (rest_at s) c.in-Behind.is) ∙ c.communities_stop.ensures)
+    (sym (ap (rest_at s) c.in_ok-e.was) ∙ c.communities_stop.ensures)
     (λ l r. ap distinct (names_taken n (drop (a.p + 1) s) l _ r) ∙ sym c.names_differ.ensures ∙ not-true _ c.if-not-names_differ.true-raw))
 
 pub returns : goal.returns
@@ -62,5 +62,5 @@ returns c =
     let room = c.if-image-p.false in
     sym
     (section_holds read_community max_communities distinct s a.p room n count c.if-n-gt-MAX_COMMUNITIES.false _
-    (sym (ap (rest_at s) c.in-Behind.is) ∙ c.communities_stop.ensures)
+    (sym (ap (rest_at s) c.in_ok-e.was) ∙ c.communities_stop.ensures)
     (λ l r. ap distinct (names_taken n (drop (a.p + 1) s) l _ r) ∙ sym c.names_differ.ensures ∙ not-false _ c.if-not-names_differ.false-raw))

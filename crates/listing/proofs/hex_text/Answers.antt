@@ -6,6 +6,3 @@ use Rattle.listing.proofs.hex_text.Goals as goal
 
 pub put_hex-requires : goal.put_hex-requires
 put_hex-requires c = let a = c.args in rw (c.slice.ensures, zero-add) (hex_fits (length a.out.now) a.s.now)
-
-pub returns : goal.returns
-returns c = rw (c.slice.ensures, zero-add) at c.put_hex.ensures

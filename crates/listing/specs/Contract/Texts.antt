@@ -1,15 +1,22 @@
 -- The listing's text (01, Checked examples), part by part as it is written: from the octets of an image, by the places of its parts.
-use Rattle.std.specs.Prelude.{ℕ, ◌+◌, ◌/◌, drop}
+use Rattle.std.specs.Prelude.{ℕ, ◌+◌, ◌/◌, ◌≤◌, ◌≡◌, length, drop, Option}
 use mathlib.Core.List.{List, [], ◌∷◌, ◌++◌, map, flat_map}
-use Rattle.std.proofs.Math.Option.{Option}
 use Rattle.octets.specs.Ascii.{ascii}
-use Rattle.octets.specs.Octets.{slice}
+use Rattle.octets.specs.Octets.{slice, placed}
+use Rattle.listing.specs.declared.Text.{Text}
 use Rattle.octets.specs.Number.{digits}
 use Rattle.anchor.specs.declared.AnchorRole.{AnchorRole}
 use Rattle.anchor.specs.declared.AnchorRole.TheVariants.{Apex, Management, Identity}
 use Rattle.store.specs.Records.{records_from}
 use Rattle.store.specs.Listing.{hex, decimal, blank, newline, number_text, anchor_line, anchor_lines, count_line}
 use Rattle.store.specs.Contract.Parts.{hw_type_in, serial_in, anchor_count, first_record, identifier_in, number_in, anchor_in, names_from, community_count, community_octets}
+
+-- a text has room for octets more, and they are written: at its place in the lent buffer, where nothing else changes
+abbrev pub HasRoom : Text → List ℕ → Type 0
+HasRoom t s = t.at + length s ≤ length t.buf.now
+
+abbrev pub Writes : Text → List ℕ → Text → Type 0
+Writes t s u = (length u.buf.now ≡ length t.buf.now) × (u.at ≡ t.at + length s) × (u.buf.now ≡ placed t.buf.now t.at s)
 
 -- "Octets are in hex": those at the head of s whose digits `room` octets hold
 abbrev pub hex_within : ℕ → List ℕ → List ℕ

@@ -5,7 +5,8 @@ use Rattle.octets.specs.Octets.{member, ordered}
 use Rattle.der.specs.Element.{element_at}
 use Rattle.der.specs.declared.Compared.{Compared}
 use Rattle.der.specs.declared.Element.{Element}
-use Rattle.der.specs.Keys.{key_of}
+use Rattle.der.specs.Keys.{key_of, keys_in}
+use Rattle.repeats.specs.declared.Sorted.{Sorted}
 
 -- few members: there is no list, or both stand in 128 octets
 abbrev pub octets_in : Element → ℕ
@@ -41,3 +42,13 @@ led_to by s order k = get_or order (find (is_before by s order k) 12 2048 0 + 1)
 -- these keys lead to places before this one
 abbrev pub Below : (List ℕ → ℕ) → ℕ → List (List ℕ) → Type 0
 Below led place keys = (k : List ℕ) → member k keys ≡ true → led k < place
+
+-- the same of the places, octets and keys that stand together
+abbrev pub precedes : Sorted → List ℕ → ℕ → Bool
+precedes x = is_before x.by x.octets.now x.order.now
+
+abbrev pub leads : Sorted → List ℕ → ℕ
+leads x = led_to x.by x.octets.now x.order.now
+
+abbrev pub keys : Sorted → Element → List (List ℕ)
+keys x = keys_in x.by x.octets.now

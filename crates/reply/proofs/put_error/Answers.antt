@@ -1,12 +1,18 @@
--- `reply::put_error` meets its contract. Assumes nothing.
-use native.Mathlib.Omega.{arith}
-use mathlib.Core.Path.{ap}
-use lib.ListN.{length}
-use Rattle.reply.proofs.Answers.{written_as, error_rest, error_is}
+use Rattle.std.proofs.Common.{◌+◌, ap, length, arith}
+use mathlib.Core.List.{flat_map}
+use Rattle.reply.proofs.Answers.{written_as, error_size, error_is}
 use Rattle.reply.proofs.put_error.Goals as goal
 
-pub put_reply-requires : goal.put_reply-requires
-put_reply-requires c = let a = c.args in (error_rest a.msgtype.now a.status a.msgref.now, omega (arith, ap length (error_is a.msgtype.now a.status a.msgref.now)))
+pub overflow_add-n-2 : goal.overflow_add-n-2
+overflow_add-n-2 c = let a = c.args in record { fits = omega (arith, c.element_size.ensures.0, error_size a.msgtype.now a.status a.msgref.now) }
+
+pub put_parts-requires : goal.put_parts-requires
+unfolding flat_map
+put_parts-requires c =
+    let a = c.args in omega (arith, ap length (error_is a.msgtype.now a.status a.msgref.now (ap (λ k. k + 3 + length a.msgref.now) c.element_size.ensures.0)))
 
 pub returns : goal.returns
-returns c = let a = c.args in written_as a.buf.now (error_is a.msgtype.now a.status a.msgref.now) c.put_reply.ensures
+unfolding flat_map
+returns c =
+    let a = c.args in
+    written_as a.buf.now (error_is a.msgtype.now a.status a.msgref.now (ap (λ k. k + 3 + length a.msgref.now) c.element_size.ensures.0)) c.put_parts.ensures

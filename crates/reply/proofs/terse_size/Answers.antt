@@ -7,20 +7,20 @@ use Rattle.reply.proofs.Members.{list_bound, identifiers-length, communities-len
 use Rattle.reply.proofs.terse_size.Goals as goal
 
 pub list_size-requires : goal.list_size-requires
-list_size-requires c = omega (arith, list_bound Identifiers c.args.image.now (λ i. (c.shared_slice_known-1.given i).fits))
+list_size-requires c = omega (arith, list_bound Identifiers c.args.image.now (λ i. (c.type_inv.image i).fits))
 
 pub list_size-requires-2 : goal.list_size-requires-2
-list_size-requires-2 c = omega (arith, list_bound Communities c.args.image.now (λ i. (c.shared_slice_known-1.given i).fits))
+list_size-requires-2 c = omega (arith, list_bound Communities c.args.image.now (λ i. (c.type_inv.image i).fits))
 
 -- both lists are far from 2 ^ 62
 pub overflow_add-result : goal.overflow_add-result
 overflow_add-result c =
     let s = c.args.image.now in
-    record { fits = omega (arith, c.list_size.ensures, c.list_size-2.ensures, list_bound Identifiers s (λ i. (c.shared_slice_known-1.given i).fits), list_bound Communities s (λ i. (c.shared_slice_known-1.given i).fits)) }
+    record { fits = omega (arith, c.list_size.ensures, c.list_size-2.ensures, list_bound Identifiers s (λ i. (c.type_inv.image i).fits), list_bound Communities s (λ i. (c.type_inv.image i).fits)) }
 
 pub returns : goal.returns
 returns c =
     let s = c.args.image.now in (
       ap₂ ◌+◌ (c.list_size.ensures ∙ identifiers-length s) (c.list_size-2.ensures ∙ communities-length s),
-      omega (arith, c.list_size.ensures, c.list_size-2.ensures, list_bound Identifiers s (λ i. (c.shared_slice_known-1.given i).fits), list_bound Communities s (λ i. (c.shared_slice_known-1.given i).fits)),
+      omega (arith, c.list_size.ensures, c.list_size-2.ensures, list_bound Identifiers s (λ i. (c.type_inv.image i).fits), list_bound Communities s (λ i. (c.type_inv.image i).fits)),
     )

@@ -1,6 +1,6 @@
 -- The replies as they are written: part by part, each header by the number of octets after it. proofs/Answers ties this to Replies.
 use Rattle.std.specs.Prelude.{ℕ, ◌+◌, length, drop}
-use mathlib.Core.List.{List, [], ◌∷◌, ◌++◌, map, flat_map}
+use mathlib.Core.List.{List, map, flat_map}
 use denote.Ref.{at_last}
 use Rattle.octets.specs.declared.Status.{Status}
 use Rattle.octets.specs.Octets.{placed}
@@ -78,29 +78,17 @@ listed by image = contents_from by (count_in by image) (rows_in by image)
 unfoldable pub status_codes : List ℕ → List ℕ
 status_codes codes = flat_map status_code (map status_numbered codes)
 
--- a part of a reply, of the octets that are given with it
-unfoldable pub part_of : Part → List ℕ → List ℕ
-part_of Octets s = s
-part_of (Header tag n) s = header tag n ++ s
-part_of Codes s = status_codes s
-part_of (ListOf by) image = list_of (tag_of by) (listed by image)
+-- a part of a reply
+abbrev pub part_octets : Part → List ℕ
+part_octets (Octets s) = s.now
+part_octets (Header tag n) = header tag n
+part_octets (Codes s) = status_codes s.now
+part_octets (ListOf by image) = list_of (tag_of by) (listed by image.now)
 
 -- The writer once octets are appended: the same borrow, with s at the writer's place, and the place after it. (`at_last x l` is the reference x at the list l.)
 abbrev pub wrote : Writer → List ℕ → Writer
 wrote w s = record { buf = at_last w.buf (placed w.buf.now w.at s); at = w.at + length s }
 
--- octets one after the other
-unfoldable pub joined : List (List ℕ) → List ℕ
-joined [] = []
-joined (s ∷ l) = s ++ joined l
-
-unfoldable pub five_parts : Part → List ℕ → Part → List ℕ → Part → List ℕ → Part → List ℕ → Part → List ℕ → List ℕ
-five_parts a s b t c u d v e x = joined (part_of a s ∷ part_of b t ∷ part_of c u ∷ part_of d v ∷ part_of e x ∷ [])
-
--- what stands after a reply's second header: octets, and three parts
-abbrev pub behind_header : List ℕ → Part → List ℕ → Part → List ℕ → Part → List ℕ → List ℕ
-behind_header first a s b t c u = first ++ (part_of a s ++ (part_of b t ++ (part_of c u ++ [])))
-
--- a reply by its second header
-abbrev pub reply_parts : List ℕ → ℕ → ℕ → List ℕ → List ℕ
-reply_parts lead tag m rest = element 0x30 (lead ++ (header tag m ++ rest))
+-- the octets of a reply's parts
+abbrev pub octets_of : List Part → List ℕ
+octets_of parts = flat_map part_octets parts

@@ -1,13 +1,19 @@
 -- The apex has whatever it is asked for; another anchor is asked by the role of the case.
-use borrow.Author.Rules.{rules}
-use Rattle.rights_cases.proofs.Laws.{apex_authorised, other_carries, other_sources}
+use Rattle.std.proofs.Common.{sym}
+use Rattle.rights.proofs.Within.{apex}
+use Rattle.rights_cases.specs.Contract.Cases.{content_in}
+use Rattle.rights_cases.proofs.Laws.{own_rights}
 use Rattle.rights_cases.proofs.is_authorised.Goals as goal
 
-pub returns-then-apex-eq1 : goal.returns-then-apex-eq1
-returns-then-apex-eq1 c = search (apex_authorised, rules)
+pub returns-in_default : goal.returns-in_default
+returns-in_default c = rw c.in_default.is (sym (apex _))
 
-pub returns-then-role-eq1 : goal.returns-then-role-eq1
-returns-then-role-eq1 c = search (other_carries, rules)
+pub returns-in-Source : goal.returns-in-Source
+unfolding content_in
+returns-in-Source c =
+    rw (c.in-Other.is, c.in-Source.is, ← own_rights _ c.constraints_value-own.ensures, ← c.element_at-e.ensures) c.authorises.ensures
 
-pub returns : goal.returns
-returns c = search (other_sources, rules)
+pub returns-in-Carrier : goal.returns-in-Carrier
+unfolding content_in
+returns-in-Carrier c =
+    rw (c.in-Other.is, c.in-Carrier.is, ← own_rights _ c.constraints_value-own.ensures, ← c.element_at-e.ensures) c.carries.ensures

@@ -1,10 +1,13 @@
 -- The apex has whatever it is asked for; another anchor's rights are those of its own constraints.
-use borrow.Author.Rules.{rules}
-use Rattle.rights_cases.proofs.Laws.{apex_within, other-within}
+use Rattle.std.proofs.Common.{sym, ap₂, ◌∙◌}
+use Rattle.rights.specs.Decision.{within}
+use Rattle.rights.proofs.Within.{within-everything}
+use Rattle.anchor.specs.Info.{rights_of}
+use Rattle.rights_cases.proofs.Laws.{own_rights}
 use Rattle.rights_cases.proofs.is_within.Goals as goal
 
-pub returns-then-apex-eq1 : goal.returns-then-apex-eq1
-returns-then-apex-eq1 c = search (apex_within, rules)
+pub returns-in-Apex : goal.returns-in-Apex
+returns-in-Apex c = rw c.in-Apex.is (sym (within-everything (rights_of c.args.new.now)))
 
-pub returns : goal.returns
-returns c = search (other-within, rules)
+pub returns-in-Other : goal.returns-in-Other
+returns-in-Other c = rw c.in-Other.is (c.is_within.ensures ∙ ap₂ within (own_rights _ c.constraints_value.ensures) (own_rights _ c.constraints_value-in-Other.ensures))

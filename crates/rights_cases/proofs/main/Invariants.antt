@@ -1,9 +1,6 @@
--- The cases end, since each ends behind the place where it begins.
-use Rattle.std.proofs.Common.{◌-◌, ◌≤◌, length}
+-- The cases end, since each answer takes octets.
+use Rattle.std.proofs.Common.{length}
 use Rattle.rights_cases.proofs.main.Given as goal
 
-abbrev pub invariant-loop-p : goal.invariant-loop-p
-invariant-loop-p l = l.p ≤ length l.s
-
-abbrev pub decreases-loop-p : goal.decreases-loop-p
-decreases-loop-p l = length l.s - l.p
+abbrev pub decreases-loop-answer : goal.decreases-loop-answer
+decreases-loop-answer l = length l.cases.left.now

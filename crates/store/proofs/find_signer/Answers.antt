@@ -1,86 +1,54 @@
-use Prim.Native.Nat.{ℕ, ◌+◌, ◌-◌}
-use native.Mathlib.Omega.{arith}
-use mathlib.Core.Bool.{false}
-use mathlib.Core.List.{List, map}
-use mathlib.Core.Path.{◌≡◌, sym, ap, ap₂, ◌∙◌}
-use lib.ListN.{drop}
-use Rattle.octets.specs.Octets.{same}
-use Rattle.store.specs.declared.FoundSigner.{FoundSigner}
-use Rattle.store.specs.declared.FoundSigner.TheVariants as found
-use Rattle.store.specs.Records.{records_from}
-use Rattle.store.specs.Signer.{signer_from, signer}
-use Rattle.store.specs.Contract.Parts.{record_end, identifier_in}
-use Rattle.store.proofs.Walk.{missed, records_of_lem, signer-found, signer_seen, signer-later, signer-none}
-use Rattle.store.proofs.find_signer.Goals.{then-equal+else-is_verified, else-equal, else-loop-rest-test, then-loop-rest-test+then-equal+then-is_verified}
+use Rattle.std.specs.Prelude.{Err}
+use Rattle.std.proofs.Common.{refl, sym, ap, ◌∙◌, length, arith}
+use Rattle.std.specs.Option.{ok_or}
+use Rattle.store.specs.Signer.{signer}
+use Rattle.store.specs.Contract.Parts.{anchor_place, anchor_count}
+use Rattle.store.proofs.Walk.{turn_none, turn_found, turn_unverified, turn_other, length-records_of}
+use Rattle.store.proofs.find_signer.Goals.{in-None, in-Some+then-equal+then-is_verified}
 use Rattle.store.proofs.find_signer.Goals as goal
 
-pub loop-rest-init : goal.loop-rest-init
-unfolding signer
-loop-rest-init c =
-    let a = c.args in (
-      omega arith,
-      ap (λ (l : List (List ℕ)). signer_from 0 (map identifier_in l) a.verdict.now a.wanted.now (missed false))
-          (ap₂ (λ (n p : ℕ). records_from n (drop p a.image.now)) c.anchor_count-rest.ensures c.first_record-p.ensures
-          ∙ sym (records_of_lem a.image.now)),
+pub loop-i-init : goal.loop-i-init
+unfolding signer anchor_count
+loop-i-init c =
+    let s = c.args.image.now in
+    let n = length-records_of s in
+    rw (c.into_iter-i-iterator.ensures.into_iter_gives, c.enumerate-i-items.ensures.source, c.enumerate-i-items.ensures.count, c.of.ensures)
+    (refl, omega (arith, n, c.type_inv.image (anchor_place s)), refl)
+
+pub loop-i-preserved : goal.loop-i-preserved
+loop-i-preserved c =
+    let a = c.args in
+    let l = c.loop-i in
+    let s = c.in-Some.ensures.steps in (
+      l.invariant.0,
+      omega (arith, ap length s.0, s.2, l.invariant.1),
+      sym (turn_other a.verdict.now a.wanted.now (Err l.missed) l.i-iterator.count s.0 s.1 c.identifier_of.ensures c.if-equal.ensures s.2) ∙ l.invariant.2,
     )
 
-pub loop-rest-preserved : goal.loop-rest-preserved
-loop-rest-preserved c =
+pub loop-i-preserved-then-equal : goal.loop-i-preserved-then-equal
+loop-i-preserved-then-equal c =
     let a = c.args in
-    let l = c.loop-rest in
-    let s = a.image.now in
-    let t = c.loop-rest-test.true in
-    let e =
-    ap (λ (r : List ℕ). same (identifier_in r) a.wanted.now) (sym c.record_at.ensures)
-    ∙ ap (λ (k : List ℕ). same k a.wanted.now) (sym c.identifier_of.ensures)
-    ∙ sym c.equal.ensures
-    in
-    let g : (m : FoundSigner) → missed c.if-equal.seen ≡ m
-    → signer_from (l.i + 1) (map identifier_in (records_from (l.rest - 1) (drop c.record_end-p.result s))) a.verdict.now a.wanted.now
-    (missed c.if-equal.seen)
-    ≡ signer_from (l.i + 1) (map identifier_in (records_from (l.rest - 1) (drop (record_end s l.p) s))) a.verdict.now a.wanted.now m = λ m q.
-    ap₂ (λ (p : ℕ) (m : FoundSigner). signer_from (l.i + 1) (map identifier_in (records_from (l.rest - 1) (drop p s))) a.verdict.now a.wanted.now m)
-    c.record_end-p.ensures q
-    in (
-      omega arith,
-      elim c.if-equal.branch [
-        | then-equal+else-is_verified w ↦
-            g found.Unverified (ap missed w.seen-is)
-            ∙ sym (signer_seen s l.p l.rest l.i a.verdict.now a.wanted.now (missed l.seen) t (e ∙ w.if-equal.true)
-            (sym w.is_verified.ensures ∙ w.if-is_verified.false)) ∙ l.invariant.1
-        | else-equal w ↦
-            g (missed l.seen) (ap missed w.seen-is)
-            ∙ sym (signer-later s l.p l.rest l.i a.verdict.now a.wanted.now (missed l.seen) t (e ∙ w.if-equal.false)) ∙ l.invariant.1
-      ],
+    let l = c.loop-i in
+    let s = c.in-Some.ensures.steps in (
+      l.invariant.0,
+      omega (arith, ap length s.0, s.2, l.invariant.1),
+      sym (turn_unverified a.verdict.now a.wanted.now (Err l.missed) l.i-iterator.count s.0 s.1 c.identifier_of.ensures c.if-equal.ensures c.if-is_verified.ensures s.2) ∙ l.invariant.2,
     )
-
-pub returns-then-rest-gt0 : goal.returns-then-rest-gt0
-returns-then-rest-gt0 c =
-    let a = c.args in
-    let l = c.loop-rest in
-    elim c.loop-rest-test.branch [
-      | else-loop-rest-test w ↦ absurd (omega arith)
-      | then-loop-rest-test+then-equal+then-is_verified w ↦
-          let e =
-          ap (λ (r : List ℕ). same (identifier_in r) a.wanted.now) (sym w.record_at.ensures)
-          ∙ ap (λ (k : List ℕ). same k a.wanted.now) (sym w.identifier_of.ensures)
-          ∙ sym w.equal.ensures
-          ∙ w.if-equal.true
-          in
-          sym (signer-found a.image.now l.p l.rest l.i a.verdict.now a.wanted.now (missed l.seen) w.loop-rest-test.true e
-          (sym w.is_verified.ensures ∙ w.if-is_verified.true)) ∙ l.invariant.1
-    ]
-
-pub returns-then-seen : goal.returns-then-seen
-returns-then-seen c =
-    let a = c.args in
-    let l = c.loop-rest in
-    sym (ap missed c.if-seen.true) ∙ sym
-    (signer-none a.image.now l.p l.rest l.i a.verdict.now a.wanted.now (missed l.seen) c.if-rest-gt0.false) ∙ l.invariant.1
 
 pub returns : goal.returns
 returns c =
     let a = c.args in
-    let l = c.loop-rest in
-    sym (ap missed c.if-seen.false) ∙ sym
-    (signer-none a.image.now l.p l.rest l.i a.verdict.now a.wanted.now (missed l.seen) c.if-rest-gt0.false) ∙ l.invariant.1
+    let l = c.loop-i in
+    elim c.match-next.branch [
+      | in-None w ↦
+          c.ok_or.ensures.value
+          ∙ ap (λ o. ok_or o l.missed) (w.found-is ∙ l.invariant.0)
+          ∙ sym (turn_none a.verdict.now a.wanted.now (Err l.missed) l.i-iterator.count w.in-None.ensures.steps.0.0)
+          ∙ l.invariant.2
+      | in-Some+then-equal+then-is_verified w ↦
+          let s = w.in-Some.ensures.steps in
+          c.ok_or.ensures.value
+          ∙ ap (λ o. ok_or o l.missed) w.found-is
+          ∙ sym (turn_found a.verdict.now a.wanted.now (Err l.missed) l.i-iterator.count s.0 s.1 w.identifier_of.ensures w.if-equal.ensures w.if-is_verified.ensures)
+          ∙ l.invariant.2
+    ]

@@ -7,10 +7,6 @@ pub returns-then-n-p : goal.returns-then-n-p
 unfolding name_end
 returns-then-n-p c = omega arith
 
-pub returns-then-n-p-2 : goal.returns-then-n-p-2
-unfolding name_end
-returns-then-n-p-2 c = omega arith
-
 pub returns : goal.returns
 unfolding name_end
-returns c = omega arith
+returns c = omega (arith, c.min.ensures, c.octet_at.ensures.0)

@@ -1,15 +1,10 @@
 -- The parts of an image by their places, and what is sought among its records. All of it is total, as `records_of` is: on octets that are no image too.
-use Rattle.std.specs.Prelude.{ℕ, zero, suc, ◌+◌, min, Bool, true, false, List, [], ◌∷◌, map, length, take, drop}
-use Rattle.std.proofs.Math.Option.{Option, none, some}
+use Rattle.std.specs.Prelude.{ℕ, zero, suc, ◌+◌, min, Bool, true, false, List, [], ◌∷◌, map, length, take, drop, Option, Some, None}
 use Rattle.octets.specs.Octets.{octet, slice, same}
 use Rattle.octets.specs.Number.{number}
 use Rattle.anchor.specs.Info.{public_key, untagged, key_identifier}
-use Rattle.store.specs.declared.Number.{Number}
-use Rattle.store.specs.declared.Number.TheVariants.{Absent, Is}
 use Rattle.store.specs.declared.Sought.{Sought}
 use Rattle.store.specs.declared.Sought.TheVariants.{PublicKey, TaggedPublicKey}
-use Rattle.store.specs.declared.Position.{Position}
-use Rattle.store.specs.declared.Position.TheVariants.{At, Nothing}
 use Rattle.store.specs.Store.{Anchor}
 use Rattle.store.specs.Image.{present_number}
 use Rattle.store.specs.Records.{records_from}
@@ -75,11 +70,6 @@ anchor_in r = record { number = number_in r; info = info_in r }
 abbrev pub info_at : List ℕ → ℕ → List ℕ
 info_at image i = info_in (record_at image (place_of image i))
 
--- an anchor's number as the code has it
-abbrev pub number_of : Number → Option ℕ
-number_of Absent = none
-number_of (Is n) = some n
-
 -- Communities: where their count stands after the last record, the count, and they themselves
 
 unfoldable pub community_place : List ℕ → ℕ
@@ -122,9 +112,9 @@ is_sought TaggedPublicKey wanted info = same (public_key info) (untagged wanted)
 
 module _ {A : Type 0} where
   -- the position of the first member that passes, where the first has position i
-  unfoldable pub first_from : ℕ → (A → Bool) → List A → Position
-  first_from i p [] = Nothing
-  first_from i p (x ∷ l) = elim (p x) [ true ↦ At i | false ↦ first_from (suc i) p l ]
+  unfoldable pub first_from : ℕ → (A → Bool) → List A → Option ℕ
+  first_from i p [] = None
+  first_from i p (x ∷ l) = elim (p x) [ true ↦ Some i | false ↦ first_from (suc i) p l ]
 
 -- the TrustAnchorInfos of the records at the head of octets
 abbrev pub infos_from : ℕ → List ℕ → List (List ℕ)

@@ -1,8 +1,9 @@
--- `syntax::recognise` meets its contract: the constant is the table of the definitions. Assumes nothing.
+-- `syntax::recognise` meets its contract: the code's table is that of specs/Contract/TypeTable. Assumes nothing.
 use mathlib.Core.Path.{refl}
 use Rattle.syntax.specs.Contract.TypeTable.{type_table}
+use Rattle.syntax.proofs.TypeTable.{recognised_by}
 use Rattle.syntax.proofs.recognise.Goals as goal
 
-pub find_type-requires : goal.find_type-requires
+pub returns : goal.returns
 unfolding type_table
-find_type-requires c = refl
+returns c = recognised_by _ refl c.find_type.ensures

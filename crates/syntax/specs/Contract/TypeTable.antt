@@ -1,5 +1,5 @@
 -- 01, "What form each place needs": the constant table of the TAMP type OIDs. Row k is the ten octets from 10 * k on, the contents octets of an OID.
-use Rattle.std.specs.Prelude.{ℕ, ◌+◌, ◌*◌, List, [], ◌∷◌, get_or}
+use Rattle.std.specs.Prelude.{ℕ, ◌+◌, ◌*◌, List, [], ◌∷◌, map, get_or}
 use Rattle.octets.specs.Octets.{slice}
 use Rattle.syntax.specs.declared.TampType.{TampType}
 use Rattle.syntax.specs.declared.TampType.TheVariants.{SeqNumAdjust}
@@ -22,3 +22,7 @@ type_octets k = slice type_table (10 * k) (10 * k + 10)
 
 abbrev pub type_at : ℕ → TampType
 type_at k = get_or tamp_types k SeqNumAdjust
+
+-- the rows, each with its type
+abbrev pub typed_rows : List (List ℕ × TampType)
+typed_rows = map (λ k. (type_octets k, type_at k)) (0 ∷ 1 ∷ 2 ∷ 3 ∷ [])

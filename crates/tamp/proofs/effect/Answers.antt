@@ -5,20 +5,20 @@ use Rattle.tamp.proofs.Decided.{refusal_does, request_does}
 use Rattle.tamp.proofs.effect.Goals as goal
 
 pub copy_to-requires : goal.copy_to-requires
-copy_to-requires c = let k = rw c.in-Refused.is at c.requires.0 in omega arith
+copy_to-requires c = let k = rw c.in-Err.is at c.requires.0 in omega arith
 
 pub effect-requires : goal.effect-requires
 effect-requires c =
     let p = c.requires in
-    let k = rw c.in-Accepted.is at p.0 in (k.1, k.0, p.1)
+    let k = rw c.in-Ok.is at p.0 in (k.1, k.0, p.1)
 
-pub returns-in-Refused : goal.returns-in-Refused
-returns-in-Refused c =
-    let e = c.in-Refused.is in
+pub returns-in-Err : goal.returns-in-Err
+returns-in-Err c =
+    let e = c.in-Err.is in
     rw e (refusal_does _ _ _ _ _ (rw e at c.requires.0).0 c.copy_to.ensures)
 
-pub returns-in-Accepted : goal.returns-in-Accepted
-returns-in-Accepted c =
-    let e = c.in-Accepted.is in
+pub returns-in-Ok : goal.returns-in-Ok
+returns-in-Ok c =
+    let e = c.in-Ok.is in
     let k = rw e at c.requires.0 in
     rw e (request_does _ _ _ _ _ (record { store = k.1.store; decodes = k.1.decodes }) c.effect.ensures (search rules))

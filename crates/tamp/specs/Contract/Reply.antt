@@ -1,5 +1,7 @@
 -- The reply by what the code has in hand: the image as given, the status of the call, and the status octets of an Update's entries.
-use Rattle.std.specs.Prelude.{ℕ, ◌≤◌, true, false, List, map, ◌≡◌, length, take, ltb}
+use Rattle.accept.specs.declared.Signer.{Signer}
+use Rattle.envelope.specs.declared.Refusal.{Refusal}
+use Rattle.std.specs.Prelude.{ℕ, ◌≤◌, true, false, List, map, ◌≡◌, length, take, ltb, Result, Ok, Err}
 use Rattle.octets.specs.declared.Status.{Status}
 use Rattle.octets.specs.Limits.{max_updates}
 use Rattle.octets.specs.Octets.{placed}
@@ -10,8 +12,6 @@ use Rattle.message.specs.declared.Request.{Request}
 use Rattle.reply.specs.Replies.{tamp_error, update_confirm, community_confirm, adjust_confirm}
 use Rattle.reply.specs.Contract.Parts.{status_numbered, response_of}
 use Rattle.protocol.specs.Call.{refusal_reply}
-use Rattle.accept.specs.declared.Acceptance.{Acceptance}
-use Rattle.accept.specs.declared.Acceptance.TheVariants.{Accepted, Refused}
 
 unfoldable pub kind_reply : TampType → List ℕ → Request → List ℕ → Status → List ℕ → List ℕ
 kind_reply StatusQuery s q image status codes = response_of (encoding s q.msgref) image
@@ -27,12 +27,12 @@ kind_reply Update s q image status codes =
 abbrev pub request_reply : List ℕ → Request → List ℕ → Status → List ℕ → List ℕ
 request_reply s q image status codes = kind_reply q.kind s q image status codes
 
-abbrev pub reply_with : List ℕ → Acceptance → List ℕ → Status → List ℕ → List ℕ
-reply_with s (Refused r) image status codes = refusal_reply s r
-reply_with s (Accepted q w) image status codes = request_reply s q image status codes
+abbrev pub reply_with : List ℕ → Result (Request × Signer) Refusal → List ℕ → Status → List ℕ → List ℕ
+reply_with s (Err r) image status codes = refusal_reply s r
+reply_with s (Ok (q, w)) image status codes = request_reply s q image status codes
 
 -- its size does not depend on the status, nor on the octets of the entries' statuses
-abbrev pub Sizes : List ℕ → Acceptance → List ℕ → ℕ → Type 0
+abbrev pub Sizes : List ℕ → Result (Request × Signer) Refusal → List ℕ → ℕ → Type 0
 Sizes s j image n = (status : Status) (codes : List ℕ) → max_updates ≤ length codes → n ≡ length (reply_with s j image status codes)
 
 -- octets written at the head of a buffer

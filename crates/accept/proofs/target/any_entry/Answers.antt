@@ -1,20 +1,7 @@
-use mathlib.Core.Path.{refl}
-use Rattle.der.proofs.Runs.{run_less}
-use Rattle.der.proofs.Loops.{any_none, any_here, any_later}
-use borrow.Author.Rules.{rules}
+-- `accept::target::any_entry` meets its contract. Assumes nothing.
+use Rattle.std.proofs.Common.{rules}
+use Rattle.octets.proofs.Chains.{any_gives}
 use Rattle.accept.proofs.target.any_entry.Goals as goal
 
-pub loop-at-init : goal.loop-at-init
-loop-at-init c = refl
-
-pub returns-then-entry_names : goal.returns-then-entry_names
-returns-then-entry_names c = search (any_here, rules)
-
-pub loop-at-smaller : goal.loop-at-smaller
-loop-at-smaller c = search (run_less, rules)
-
-pub loop-at-preserved : goal.loop-at-preserved
-loop-at-preserved c = search (any_later, rules)
-
 pub returns : goal.returns
-returns c = search (any_none, rules)
+returns c = any_gives c.any.ensures.ran c.inside.ensures (λ x b q h. search (rules))

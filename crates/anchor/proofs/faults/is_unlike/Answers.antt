@@ -1,27 +1,19 @@
 -- `anchor::is_unlike` meets its contract. Assumes nothing.
-use mathlib.Core.Path.{sym}
-use borrow.Author.Tests.{not-true, not-false}
+use mathlib.Core.Path.{sym, ◌∙◌}
 use Rattle.rights.specs.Rights.{any_content_type}
 use Rattle.anchor.proofs.Constraints.{unlike_other, unlike_generation, unlike_constrained}
 use Rattle.anchor.proofs.faults.is_unlike.Goals as goal
 
-pub returns-then-not-equal : goal.returns-then-not-equal
+pub returns-then-field : goal.returns-then-field
 unfolding any_content_type
-returns-then-not-equal c =
-    let k = c.type_of.ensures in
-    let m = c.equal.ensures in
-    sym (unlike_other _ _ k m (not-true _ c.if-not-equal.true-raw))
+returns-then-field c =
+    c.if-field.true ∙ sym (unlike_generation c.args.v.now c.args.e c.type_of.ensures c.equal.ensures c.if-equal.true c.field.ensures c.if-field.true)
 
-pub returns-then-generation : goal.returns-then-generation
+pub returns-else-field : goal.returns-else-field
 unfolding any_content_type
-returns-then-generation c =
-    let k = c.type_of.ensures in
-    let m = c.equal.ensures in
-    sym (unlike_generation _ _ k m (not-false _ c.if-not-equal.false-raw) c.field-generation.ensures c.if-generation.true)
+returns-else-field c =
+    sym (unlike_constrained c.args.v.now c.args.e c.type_of.ensures c.equal.ensures c.if-equal.true c.field.ensures c.if-field.false c.field-else-field.ensures c.more_than.ensures)
 
-pub returns : goal.returns
+pub returns-else-equal : goal.returns-else-equal
 unfolding any_content_type
-returns c =
-    let k = c.type_of.ensures in
-    let m = c.equal.ensures in
-    unlike_constrained _ _ k m (not-false _ c.if-not-equal.false-raw) c.field-generation.ensures c.if-generation.false c.field.ensures c.more_than.ensures
+returns-else-equal c = c.if-equal.false ∙ sym (unlike_other c.args.v.now c.args.e c.type_of.ensures c.equal.ensures c.if-equal.false)

@@ -1,20 +1,9 @@
-use borrow.Author.Rules.{rules}
-use mathlib.Core.Path.{refl}
-use Rattle.der.proofs.Runs.{run_less}
-use Rattle.anchor.proofs.Constraints.{more_here, more_later, more_none}
+-- `anchor::more_than` meets its contract. Assumes nothing.
+use Rattle.std.proofs.Common.{ap, ◌∙◌}
+use Rattle.std.specs.Prelude.{is_some}
+use Rattle.anchor.proofs.Chains.{nth_gives}
+use Rattle.anchor.proofs.Constraints.{nth_stands}
 use Rattle.anchor.proofs.faults.more_than.Goals as goal
 
-pub loop-i-init : goal.loop-i-init
-loop-i-init c = refl
-
-pub returns-then-left-eq0 : goal.returns-then-left-eq0
-returns-then-left-eq0 c = search (more_here, rules)
-
-pub loop-i-smaller : goal.loop-i-smaller
-loop-i-smaller c = search (run_less, rules)
-
-pub loop-i-preserved : goal.loop-i-preserved
-loop-i-preserved c = search (more_later, rules)
-
 pub returns : goal.returns
-returns c = search (more_none, rules)
+returns c = c.is_some.ensures ∙ ap is_some (nth_gives _ c.args.n c.nth.ensures.ran c.inside.ensures) ∙ nth_stands _ c.args.n

@@ -1,37 +1,22 @@
 -- `apply::community_update` meets its contract. Assumes nothing.
 use native.Mathlib.Omega.{arith}
-use mathlib.Core.Path.{sym}
-use lib.Seq.{length-take-le}
-use Rattle.apply.proofs.Signing.{written_holds, written_scratch, held_short, community_effects}
+use mathlib.Core.Path.{sym, ap, ◌∙◌}
+use Rattle.apply.specs.Contract.Entry.{applied_status}
+use Rattle.apply.proofs.Signing.{written_scratch, community_effects}
 use Rattle.apply.proofs.community.community_update.Goals as goal
+use Rattle.apply.proofs.community.community_update.Goals.{in-Ok, in-Err}
 
-pub community_scratch-done-requires : goal.community_scratch-done-requires
-community_scratch-done-requires c =
+pub community_scratch-requires : goal.community_scratch-requires
+community_scratch-requires c =
     let p = c.requires in
-    record { asked = p.1; update = p.2; scratch = written_scratch (c.renumber-len.ensures p.0.store p.0.decodes) (omega arith) }
-
-pub slice_bounds-work-end : goal.slice_bounds-work-end
-slice_bounds-work-end c =
-    let p = c.requires.0 in
-    let before = written_holds (c.renumber-len.ensures p.store p.decodes) (omega arith) in
-    let after = c.community_scratch-done.ensures.store _ before in
-    after.inside
-
-pub slice_bounds-copy_to-end : goal.slice_bounds-copy_to-end
-slice_bounds-copy_to-end c =
-    let p = c.requires.0 in
-    let before = written_holds (c.renumber-len.ensures p.store p.decodes) (omega arith) in
-    let after = c.community_scratch-done.ensures.store _ before in
-    sym (length-take-le _ _ after.inside)
-
-pub copy_to-requires : goal.copy_to-requires
-copy_to-requires c =
-    let p = c.requires.0 in
-    let before = written_holds (c.renumber-len.ensures p.store p.decodes) (omega arith) in
-    let after = c.community_scratch-done.ensures.store _ before in
-    omega (arith, held_short after, p.room)
+    record { asked = p.1; update = p.2; scratch = written_scratch (c.renumber.ensures p.0.store p.0.decodes) (omega arith) }
 
 pub returns : goal.returns
 returns c =
-    let a = c.args in
-    community_effects a.message.now a.q a.w a.image.now c.renumber-len.ensures (omega arith) c.community_scratch-done.ensures c.copy_to.ensures
+    let m = c.args.m.now in
+    let done = c.community_scratch.ensures in
+    let copied = rw c.image.ensures at c.copy_to.ensures in
+    elim c.match-community_scratch.branch [
+      | in-Ok w ↦ community_effects m.message.now m.request m.signer m.image.now c.renumber.ensures (omega arith) done (w.status-is ∙ sym (ap applied_status w.in-Ok.is)) copied
+      | in-Err w ↦ community_effects m.message.now m.request m.signer m.image.now c.renumber.ensures (omega arith) done (w.status-is ∙ sym (ap applied_status w.in-Err.is)) copied
+    ]

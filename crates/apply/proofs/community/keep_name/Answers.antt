@@ -9,6 +9,3 @@ returns-then-occurs c = keep_none _ _ c.occurs.ensures c.if-occurs.true
 pub returns : goal.returns
 unfolding key_of
 returns c = keep_one _ _ c.occurs.ensures c.if-occurs.false c.join.ensures
-
-pub join-requires : goal.join-requires
-join-requires c = c.requires

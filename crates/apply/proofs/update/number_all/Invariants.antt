@@ -1,9 +1,9 @@
+use mathlib.Core.Path.{◌≡◌}
+use Rattle.der.specs.Element.{inside}
 use Rattle.apply.proofs.Pairs.{Pairing}
-use Prim.Native.Nat.{◌-◌}
 use Rattle.apply.proofs.update.number_all.Given as goal
 
-abbrev pub invariant-loop-at : goal.invariant-loop-at
-invariant-loop-at l = Pairing l.message l.stop l.initial.work l.len l.old l.initial.at l.work l.at
-
-abbrev pub decreases-loop-at : goal.decreases-loop-at
-decreases-loop-at l = l.stop - l.at
+abbrev pub invariant-loop-e : goal.invariant-loop-e
+invariant-loop-e l =
+    Pairing l.m.message.now (inside l.m.message.now l.m.request.numbers) l.initial.work.octets l.initial.work.len l.initial.work.former l.work.octets l.e-iterator
+    × (l.work.len ≡ l.initial.work.len) × (l.work.former ≡ l.initial.work.former)

@@ -1,9 +1,8 @@
+use mathlib.Core.Path.{◌≡◌}
 use Rattle.apply.proofs.Numbers.{Numbering}
-use Prim.Native.Nat.{◌-◌}
 use Rattle.apply.proofs.update.number_new.Given as goal
 
-abbrev pub invariant-loop-j : goal.invariant-loop-j
-invariant-loop-j l = Numbering l.id l.n l.initial.work l.len l.old l.count l.work l.j l.p
-
-abbrev pub decreases-loop-j : goal.decreases-loop-j
-decreases-loop-j l = l.count - l.j
+abbrev pub invariant-loop : goal.invariant-loop
+invariant-loop l =
+    Numbering l.id l.n l.initial.work.octets l.initial.work.len l.initial.work.former l.count l.work.octets l.counter l.p
+    × (l.work.len ≡ l.initial.work.len) × (l.work.former ≡ l.initial.work.former)

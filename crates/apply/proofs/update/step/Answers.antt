@@ -1,8 +1,5 @@
-use Rattle.apply.proofs.Entries.{adding-conforms, step_add, step_certificate, step_remove, step_change}
+use Rattle.apply.proofs.Entries.{step_add, step_certificate, step_remove, step_change}
 use Rattle.apply.proofs.update.step.Goals as goal
-
-pub add-requires : goal.add-requires
-add-requires c = (c.requires.0, adding-conforms _ c.requires.1 c.in-Add.is c.encoding.ensures)
 
 pub returns-in-Add : goal.returns-in-Add
 returns-in-Add c = step_add _ _ c.in-Add.is c.encoding.ensures c.add.ensures

@@ -1,9 +1,10 @@
 use native.Mathlib.Omega.{arith}
 use borrow.Author.Rules.{rules}
-use mathlib.Core.Path.{sym, ◌∙◌}
+use Rattle.std.specs.Prelude.{not}
+use mathlib.Core.Path.{sym, ap, ◌∙◌}
 use borrow.Author.Tests.{not-true, not-false}
 use Rattle.der.specs.Element.{elements}
-use Rattle.der.proofs.Runs.{run_less}
+use Rattle.der.specs.Check.{der, sorted_in}
 use Rattle.der.proofs.Fits.{each_fits, each_fails, each_misplaced, each-later}
 use Rattle.der.proofs.Checks.{each_first, der_deep, der_bad, der_run_lem, der-leaf, der_valid}
 use Rattle.der.proofs.check.+check_element_check_run.Goals as goal
@@ -20,10 +21,11 @@ check_element-returns t c =
     let k = sym c.is_constructed.ensures ∙ c.if-is_constructed.false in
     c.check_contents.ensures ∙ sym (der-leaf _ _ _ c.if-depth-eq0.false (not-false _ c.if-not-e.false) k)
 
-pub check_run-loop-at-init : goal.check_run-loop-at-init
-check_run-loop-at-init t c =
+pub check_run-loop-e-init : goal.check_run-loop-e-init
+check_run-loop-e-init t c =
     let a = c.args in
-    rw c.no_element-former.ensures (each_first a.tag a.s.now a.start a.depth (elements a.s.now a.start a.stop))
+    rw (c.into_iter-e-iterator.ensures.into_iter_gives, c.new-e-items.ensures, c.no_element-former.ensures)
+    (each_first a.tag a.s.now a.start a.depth (elements a.s.now a.start a.stop))
 
 pub check_element-returns-then-not-e : goal.check_element-returns-then-not-e
 check_element-returns-then-not-e t c = sym (der_bad _ _ _ (not-true _ c.if-not-e.true))
@@ -40,17 +42,21 @@ check_element-check_run-requires t c = omega arith
 pub check_run-check_element-requires : goal.check_run-check_element-requires
 check_run-check_element-requires t c = omega arith
 
-pub check_run-returns-in-Breaks : goal.check_run-returns-in-Breaks
-check_run-returns-in-Breaks t c = search (each_fails, der_valid, rules)
+pub check_run-returns-in_err-check_element : goal.check_run-returns-in_err-check_element
+check_run-returns-in_err-check_element t c =
+    let a = c.args in
+    let e = each_fails (der a.depth a.s.now) (sorted_in a.tag a.s.now) _ c.loop-e.invariant c.in-Some.ensures.steps (der_valid _ _ a.depth c.check_element.ensures) c.in_err-check_element.was in
+    search (e, rules)
 
 pub check_run-returns-then-not-is_sorted : goal.check_run-returns-then-not-is_sorted
-check_run-returns-then-not-is_sorted t c = search (each_misplaced, der_valid, rules)
+check_run-returns-then-not-is_sorted t c =
+    let a = c.args in
+    each_misplaced (der a.depth a.s.now) (sorted_in a.tag a.s.now) _ c.loop-e.invariant c.in-Some.ensures.steps (der_valid _ _ a.depth c.check_element.ensures) c.in_ok-check_element.was c.is_sorted.ensures (ap not c.if-not-is_sorted.true)
 
-pub check_run-loop-at-smaller : goal.check_run-loop-at-smaller
-check_run-loop-at-smaller t c = search (run_less, rules)
-
-pub check_run-loop-at-preserved : goal.check_run-loop-at-preserved
-check_run-loop-at-preserved t c = search (each-later, der_valid, rules)
+pub check_run-loop-e-preserved : goal.check_run-loop-e-preserved
+check_run-loop-e-preserved t c =
+    let a = c.args in
+    each-later (der a.depth a.s.now) (sorted_in a.tag a.s.now) _ c.loop-e.invariant c.in-Some.ensures.steps (der_valid _ _ a.depth c.check_element.ensures) c.in_ok-check_element.was c.is_sorted.ensures (ap not c.if-not-is_sorted.false)
 
 pub check_run-returns : goal.check_run-returns
 check_run-returns t c = search (each_fits, rules)

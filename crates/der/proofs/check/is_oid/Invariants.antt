@@ -10,6 +10,3 @@ use Rattle.der.proofs.check.is_oid.Given as goal
 
 abbrev pub invariant-loop-i : goal.invariant-loop-i
 invariant-loop-i l = (l.i ≤ length l.o) × (arcs_ok (arc_begins l.o l.i) (drop l.i l.o) ≡ ltb (octet l.o (length l.o - 1)) 128)
-
-abbrev pub decreases-loop-i : goal.decreases-loop-i
-decreases-loop-i l = l.i

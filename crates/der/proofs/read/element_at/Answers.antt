@@ -35,7 +35,7 @@ returns-in_default c =
 pub is_shortest-requires : goal.is_shortest-requires
 is_shortest-requires c =
     let a = c.args in
-    let l = of_ends a.s.now a.at a.stop (sym c.length_at.ensures ∙ c.in-Of.is) in
+    let l = of_ends a.s.now a.at a.stop (sym c.length_at.ensures ∙ c.in-Some.is) in
     (omega arith, l.1.0)
 
 pub returns-then-not-is_shortest : goal.returns-then-not-is_shortest
@@ -47,13 +47,13 @@ returns-then-not-is_shortest c =
 pub overflow_add-result : goal.overflow_add-result
 overflow_add-result c =
     let a = c.args in
-    let l = of_ends a.s.now a.at a.stop (sym c.length_at.ensures ∙ c.in-Of.is) in
+    let l = of_ends a.s.now a.at a.stop (sym c.length_at.ensures ∙ c.in-Some.is) in
     omega arith
 
 pub returns : goal.returns
 returns c =
     let a = c.args in
-    let l = of_ends a.s.now a.at a.stop (sym c.length_at.ensures ∙ c.in-Of.is) in
+    let l = of_ends a.s.now a.at a.stop (sym c.length_at.ensures ∙ c.in-Some.is) in
     let h : Header a.s.now a.at a.stop =
     record {
       within = omega arith;

@@ -15,12 +15,12 @@ returns-then-stop-start c =
     sym (length_beyond _ _ _ (read_beyond _ _ _ c.requires.1 c.loop-i.invariant c.loop-i-test.true c.if-stop-start.true))
 
 pub overflow_add-n : goal.overflow_add-n
-overflow_add-n c = omega (arith, c.wide-x.ensures, c.shared_slice_known-in-loop-i-1.given c.loop-i.i)
+overflow_add-n c = omega (arith, c.from-x.ensures, c.shared_slice_known-in-loop-i-1.given c.loop-i.i)
 
 pub returns-then-stop-start-2 : goal.returns-then-stop-start-2
 returns-then-stop-start-2 c =
     let z = c.loop-i.invariant.none c.if-x-lt128.false.0 in
-    let x = ap (octet c.args.s.now) (sym z.0) ∙ sym c.wide-x.ensures in
+    let x = ap (octet c.args.s.now) (sym z.0) ∙ sym c.from-x.ensures in
     sym (length_beyond c.args.s.now c.args.at c.args.stop (omega (arith, x, z.1.0)))
 
 pub returns-then-stop-start-3 : goal.returns-then-stop-start-3
@@ -48,7 +48,7 @@ overflow_sub-start c = c.if-x-lt128.false.1
 pub loop-i-preserved : goal.loop-i-preserved
 loop-i-preserved c =
     let l = c.loop-i in
-    let x = c.wide-x.ensures in
+    let x = c.from-x.ensures in
     elim c.if-x-lt128.branch [
       | then-x-lt128+else-stop-start w ↦
           let short : l.later ≡ false → octet c.args.s.now l.i < 128 = λ f.

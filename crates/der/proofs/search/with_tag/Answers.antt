@@ -1,20 +1,12 @@
-use borrow.Author.Rules.{rules}
-use mathlib.Core.Path.{refl}
-use Rattle.der.proofs.Runs.{run_less}
-use Rattle.der.proofs.Loops.{tag-here, tag-later, tag-none}
+-- `der::with_tag` meets its contract. Assumes nothing.
+use Rattle.std.specs.Prelude.{eqb}
+use Rattle.std.specs.List.{find}
+use Rattle.std.proofs.Common.{rules, ◌≡◌}
+use Rattle.octets.proofs.Chains.{find_gives}
+use Rattle.der.proofs.Loops.{tag_found}
 use Rattle.der.proofs.search.with_tag.Goals as goal
 
-pub loop-i-init : goal.loop-i-init
-loop-i-init c = refl
-
-pub returns-then-e-tag : goal.returns-then-e-tag
-returns-then-e-tag c = search (tag-here, rules)
-
-pub loop-i-smaller : goal.loop-i-smaller
-loop-i-smaller c = search (run_less, rules)
-
-pub loop-i-preserved : goal.loop-i-preserved
-loop-i-preserved c = search (tag-later, rules)
-
 pub returns : goal.returns
-returns c = search (tag-none, rules)
+returns c =
+    let f : c.find.result ≡ find (λ e. eqb e.tag c.args.tag) _ = find_gives _ c.find.ensures.ran c.new.ensures (λ x b q h. search (rules)) in
+    rw (c.unwrap_or.ensures, c.no_element.ensures, f) (tag_found _ _)

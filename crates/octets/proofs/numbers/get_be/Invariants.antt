@@ -1,11 +1,7 @@
--- n is the number that the i octets before p write.
-use Rattle.std.proofs.Common.{◌≡◌, ◌+◌, ◌-◌, ◌^◌, ◌≤◌, ◌<◌, take, drop}
+-- n is the number that the octets before place x-index of the part write.
+use Rattle.std.proofs.Common.{◌≡◌, ◌^◌, ◌<◌, ◌≤◌, min, length, take}
 use Rattle.octets.specs.Number.{number}
 use Rattle.octets.proofs.numbers.get_be.Given as goal
 
-abbrev pub invariant-loop-i : goal.invariant-loop-i
-invariant-loop-i l =
-    (l.i ≤ 8) × (l.i ≤ l.width) × (l.p ≡ l.at + l.i) × (l.n ≡ number (take l.i (drop l.at l.s))) × (l.n < 256 ^ l.i)
-
-abbrev pub decreases-loop-i : goal.decreases-loop-i
-decreases-loop-i l = 8 - l.i
+abbrev pub invariant-loop-x : goal.invariant-loop-x
+invariant-loop-x l = (length l.part ≤ min l.width 8) × (l.n ≡ number (take l.x-index l.part)) × (l.n < 256 ^ l.x-index)

@@ -1,18 +1,25 @@
-use Rattle.std.proofs.Common.{refl, sym, ap, ◌∙◌, arith}
-use lib.ListN.{length-set}
-use lib.Seq.{take_all}
+use Rattle.std.proofs.Common.{◌≡◌, ◌+◌, drop, get_or, add-one, add-zero, length-drop, refl, sym, ap, ◌∙◌, arith}
+use lib.ListN.{drop_of_length-le}
+use lib.Seq.{drop-cons}
 use Rattle.octets.specs.Octets.{placed}
-use Rattle.octets.proofs.Placed.{placed-nil, up_turn}
+use Rattle.octets.proofs.Placed.{placed-nil, placed-cons}
 use Rattle.octets.proofs.strings.copy_to.Goals as goal
 
 pub loop-i-init : goal.loop-i-init
-loop-i-init c = (omega arith, refl, sym (placed-nil _ _))
+loop-i-init c = let a = c.args in rw (add-zero a.at) refl
 
 pub loop-i-preserved : goal.loop-i-preserved
 loop-i-preserved c =
     let a = c.args in
     let l = c.loop-i in
-    (omega arith, simp length-set l.invariant.1, rw l.invariant.2 (up_turn a.dst.now a.at a.src.now l.i (omega arith) (omega arith)))
+    let e : a.at + (l.i + 1) ≡ a.at + l.i + 1 = omega arith in
+    let rest = drop (l.i + 1) a.src.now in
+    let room = length-drop (l.i + 1) a.src.now in
+    rw e (placed-cons l.dst (a.at + l.i) (get_or a.src.now l.i 0) rest (omega arith))
+    ∙ ap (placed l.dst (a.at + l.i)) (sym (rw (← add-one l.i) at (drop-cons a.src.now l.i 0 c.loop-i-test.true)))
+    ∙ l.invariant
 
 pub returns : goal.returns
-returns c = c.loop-i.invariant.2 ∙ ap (placed _ _) (take_all c.loop-i.i c.args.src.now (omega arith))
+returns c =
+    let l = c.loop-i in
+    sym (placed-nil l.dst (c.args.at + l.i)) ∙ rw (drop_of_length-le c.args.src.now c.loop-i-test.false) at l.invariant

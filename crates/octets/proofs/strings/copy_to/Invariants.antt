@@ -1,10 +1,7 @@
--- The first i octets stand in their place, and nothing else changed.
-use Rattle.std.proofs.Common.{◌≡◌, ◌-◌, ◌≤◌, length, take}
+-- What is still to be written completes it.
+use Rattle.std.proofs.Common.{◌≡◌, ◌+◌, drop}
 use Rattle.octets.specs.Octets.{placed}
 use Rattle.octets.proofs.strings.copy_to.Given as goal
 
 abbrev pub invariant-loop-i : goal.invariant-loop-i
-invariant-loop-i l = (l.i ≤ length l.src) × (length l.dst ≡ length l.initial.dst) × (l.dst ≡ placed l.initial.dst l.at (take l.i l.src))
-
-abbrev pub decreases-loop-i : goal.decreases-loop-i
-decreases-loop-i l = length l.src - l.i
+invariant-loop-i l = placed l.dst (l.at + l.i) (drop l.i l.src) ≡ placed l.initial.dst l.at l.src

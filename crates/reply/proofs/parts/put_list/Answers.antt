@@ -1,5 +1,4 @@
--- `reply::parts::put_list` meets its contract. Assumes nothing.
-use native.Mathlib.Omega.{arith}
+use Rattle.std.proofs.Common.{arith}
 use Rattle.octets.proofs.Turns.{nothing_written}
 use Rattle.der.specs.Write.{header}
 use Rattle.reply.proofs.Elements.{first_fits, second_fits, both-written}

@@ -1,20 +1,7 @@
-use borrow.Author.Rules.{rules}
-use mathlib.Core.Path.{refl}
-use Rattle.der.proofs.Runs.{run_less}
-use Rattle.der.proofs.Loops.{all_fails, all-later, all_passed}
+-- `rights::attributes_meet` meets its contract. Assumes nothing.
+use Rattle.std.proofs.Common.{rules}
+use Rattle.octets.proofs.Chains.{all_gives}
 use Rattle.rights.proofs.content.attributes_meet.Goals as goal
 
-pub loop-i-init : goal.loop-i-init
-loop-i-init c = refl
-
-pub returns-then-not-attribute_meets : goal.returns-then-not-attribute_meets
-returns-then-not-attribute_meets c = search (all_fails, rules)
-
-pub loop-i-smaller : goal.loop-i-smaller
-loop-i-smaller c = search (run_less, rules)
-
-pub loop-i-preserved : goal.loop-i-preserved
-loop-i-preserved c = search (all-later, rules)
-
 pub returns : goal.returns
-returns c = search (all_passed, rules)
+returns c = all_gives c.all.ensures.ran c.inside.ensures (λ x b q h. search (rules))

@@ -1,10 +1,9 @@
 -- `rights::carries` meets its contract. Assumes nothing.
 use borrow.Author.Rules.{rules}
-use Rattle.rights.proofs.Attributes.{not_governed, carried}
+use Rattle.rights.specs.Rights.{carrier, may_act}
+use Rattle.rights.proofs.Attributes.{governed}
 use Rattle.rights.proofs.content.carries.Goals as goal
 
-pub returns-in_default : goal.returns-in_default
-returns-in_default c = search (not_governed, rules)
-
 pub returns : goal.returns
-returns c = search (carried, rules)
+unfolding may_act
+returns c = governed _ _ _ _ c.governing.ensures carrier c.is_some_and.ensures (λ e h. search rules)

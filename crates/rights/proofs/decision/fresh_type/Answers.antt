@@ -1,30 +1,14 @@
+-- `rights::fresh_type` meets its contract. Assumes nothing.
+use Rattle.std.proofs.Common.{rules}
 use native.Mathlib.Omega.{arith}
-use borrow.Author.Rules.{rules}
-use Rattle.rights.specs.Decision.{oid}
-use Rattle.rights.proofs.Values.{type_more, type_fresh, type_last}
+use Rattle.octets.proofs.Lists.{member-append}
+use Rattle.rights.specs.Decision.{oid, listed_types}
+use Rattle.rights.proofs.Values.{type_smallest}
 use Rattle.rights.proofs.decision.fresh_type.Goals as goal
 
 pub returns : goal.returns
+unfolding oid listed_types
 returns c =
-    type_last _ _
-    (λ i. omega (arith, c.shared_slice_known-1.given i))
-    (λ i. omega (arith, c.shared_slice_known-2-1.given i))
-    _
-    c.loop-n.invariant.0
-    (omega arith)
-
-pub loop-n-init : goal.loop-n-init
-unfolding oid
-loop-n-init c = omega arith
-
-pub returns-then-not-is_listed_type : goal.returns-then-not-is_listed_type
-unfolding oid
-returns-then-not-is_listed_type c = search (type_fresh, rules)
-
-pub loop-n-smaller : goal.loop-n-smaller
-unfolding oid
-loop-n-smaller c = omega arith
-
-pub loop-n-preserved : goal.loop-n-preserved
-unfolding oid
-loop-n-preserved c = search (type_more, rules)
+    type_smallest _ _ (λ i. omega (arith, c.type_inv.signer i)) (λ i. omega (arith, c.type_inv.new i)) c.smallest.ensures.bounded
+    (λ i h. let x = c.smallest.ensures.least i h in search (x, member-append, rules))
+    (λ h. let x = c.smallest.ensures.free h in search (x, member-append, rules))

@@ -1,24 +1,10 @@
+-- `rights::fresh_value` meets its contract. Assumes nothing.
+use Rattle.std.proofs.Common.{rules}
 use native.Mathlib.Omega.{arith}
-use borrow.Author.Rules.{rules}
 use Rattle.rights.specs.Decision.{integer}
-use Rattle.rights.proofs.Values.{value_more, value-fresh, value_last}
+use Rattle.rights.proofs.Values.{value_smallest}
 use Rattle.rights.proofs.decision.fresh_value.Goals as goal
 
 pub returns : goal.returns
-returns c = value_last _ (λ i. omega (arith, c.shared_slice_known-1.given i)) c.args.constraint _ c.loop-n.invariant.0 (omega arith)
-
-pub loop-n-init : goal.loop-n-init
 unfolding integer
-loop-n-init c = omega arith
-
-pub returns-then-not-lists : goal.returns-then-not-lists
-unfolding integer
-returns-then-not-lists c = search (value-fresh, rules)
-
-pub loop-n-smaller : goal.loop-n-smaller
-unfolding integer
-loop-n-smaller c = omega arith
-
-pub loop-n-preserved : goal.loop-n-preserved
-unfolding integer
-loop-n-preserved c = search (value_more, rules)
+returns c = value_smallest _ (λ i. omega (arith, c.type_inv.v i)) c.args.constraint c.smallest.ensures.bounded (λ i h. let x = c.smallest.ensures.least i h in search (x, rules)) (λ h. let x = c.smallest.ensures.free h in search (x, rules))

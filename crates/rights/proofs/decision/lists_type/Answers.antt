@@ -1,7 +1,6 @@
 -- `rights::lists_type` meets its contract. Assumes nothing.
-use borrow.Author.Rules.{rules}
-use Rattle.rights.proofs.Places.{type_listed}
+use Rattle.rights.proofs.Places.{listed_types_lem}
 use Rattle.rights.proofs.decision.lists_type.Goals as goal
 
 pub returns : goal.returns
-returns c = search (type_listed, rules)
+returns c = rw (c.occurs.ensures, c.entries-list.ensures, listed_types_lem c.args.v.now)

@@ -1,15 +1,8 @@
--- `syntax::row::row_at` meets its contract. Assumes nothing.
-use Rattle.syntax.proofs.Rows.{row_read}
+-- `syntax::row::row_at` meets its contract: the code's table is that of specs/Contract/Table. Assumes nothing.
+use mathlib.Core.Path.{refl}
+use Rattle.syntax.specs.Contract.Table.{rows}
 use Rattle.syntax.proofs.row.row_at.Goals as goal
 
-pub returns : goal.returns
-returns c =
-    let p = c.requires in
-    row_read p.0 p.1
-    (λ i.
-    record {
-      kind = c.column.ensures i;
-      argument = c.column-2.ensures i;
-      body = c.column-3.ensures i;
-      next = c.column-4.ensures i;
-    })
+pub row_of-requires : goal.row_of-requires
+unfolding rows
+row_of-requires c = (refl, c.requires)

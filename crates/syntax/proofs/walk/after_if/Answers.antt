@@ -6,6 +6,6 @@ pub returns-then-ok : goal.returns-then-ok
 unfolding after_if
 returns-then-ok c = rw (c.if-ok.true, after_if)
 
-pub returns : goal.returns
+pub returns-else-ok : goal.returns-else-ok
 unfolding after_if
-returns c = rw (c.if-ok.false, after_if)
+returns-else-ok c = rw (c.if-ok.false, after_if)

@@ -1,8 +1,0 @@
--- `reply::parts::member` meets its contract. Assumes nothing.
-use Rattle.reply.proofs.parts.member.Goals as goal
-
-pub returns-in-Identifiers : goal.returns-in-Identifiers
-returns-in-Identifiers c = rw (c.in-Identifiers.is, ← c.record_at.ensures) c.identifier_of.ensures
-
-pub returns-in-Communities : goal.returns-in-Communities
-returns-in-Communities c = rw c.in-Communities.is c.name_at.ensures
