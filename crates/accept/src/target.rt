@@ -38,6 +38,7 @@ fn entry_names(serial: &[u8], target: &[u8], e: Element) -> bool
     }
 }
 
+// (Target, serial and hwType are no struct: each test takes one more of them than the one above.)
 // Whether one of the entries names the serial.
 fn any_entry(serial: &[u8], target: &[u8], entries: Element) -> bool
     ensures { result ≡ any_of (entry_names serial.now target.now) (inside target.now entries) }
@@ -74,7 +75,7 @@ fn any_community(names: &[u8], n: usize, target: &[u8], t: Element) -> bool
 pub fn names_device(image: &[u8], target: &[u8]) -> bool
     ensures { result ≡ names_device (hw_type_in image.now) (serial_in image.now) (communities_of image.now) target.now }
 {
-    let t = der::element_at(target, 0, target.len());
+    let t = der::root(target);
     match t.tag {
         der::CONTEXT_3 => true,
         der::CONSTRUCTED_2 => {
@@ -89,6 +90,6 @@ pub fn names_device(image: &[u8], target: &[u8]) -> bool
 pub fn is_unsupported(target: &[u8]) -> bool
     ensures { result ≡ is_unsupported target.now }
 {
-    let t = der::element_at(target, 0, target.len());
+    let t = der::root(target);
     matches!(t.tag, der::CONTEXT_4 | der::CONSTRUCTED_5)
 }

@@ -8,7 +8,6 @@ ghost use Rattle.der.specs.Keys.{keys_in};
 ghost use Rattle.rights.specs.Constraints.{attr_constraint, content_type_constraint, constraints_rights};
 ghost use Rattle.anchor.specs.Contract.Faults.{is_long, together, attribute_faults, is_unlike, entry_faults, rights_faults};
 
-use crate::info::root;
 use der::{Compared, Element, Run};
 use std::ops::BitOr;
 
@@ -116,7 +115,7 @@ fn entry_faults(v: &[u8], e: Element) -> Faults
 pub fn rights_faults(v: &[u8]) -> Faults
     ensures { result ≡ rights_faults (constraints_rights v.now) }
 {
-    let list = root(v);
+    let list = der::root(v);
     let own = Faults {
         repeated: !repeats::is_distinct(v, list, Compared::Types),
         entries: more_than(v, list, octets::MAX_ENTRIES),

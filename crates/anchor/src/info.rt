@@ -1,7 +1,7 @@
 // The parts of a TrustAnchorInfo (RFC 5914), and its role. It is passed as its octets: six crates lend these, and a struct around the one slice, made at each
 // call to read one part, says no more than the clauses, which hold of any octets.
 ghost use Rattle.std.specs.Prelude.{◌≡◌};
-ghost use Rattle.der.specs.Element.{root as rootOf, inside};
+ghost use Rattle.der.specs.Element.{inside};
 ghost use Rattle.anchor.specs.Info.{public_key, key_id_field, key_identifier, extn_value, is_constraints, constraints_in, constraints_extension};
 ghost use Rattle.anchor.specs.Info.{has_constraints, constraints_value};
 ghost use Rattle.anchor.specs.Role.{extension_list, role_of};
@@ -12,26 +12,19 @@ use der::{Compared, Element};
 // RFC 6010: id-pe-cmsContentConstraints, 1.3.6.1.5.5.7.1.18.
 const ID_PE_CMS_CONTENT_CONSTRAINTS: [u8; 8] = [0x2B, 0x06, 0x01, 0x05, 0x05, 0x07, 0x01, 0x12];
 
-// The element that octets by themselves are.
-pub fn root(t: &[u8]) -> Element
-    ensures { result ≡ rootOf t.now }
-{
-    der::element_at(t, 0, t.len())
-}
-
 // The SubjectPublicKeyInfo's octets.
 #[tactic(auto, unfolding(crate::specs::Info::public_key))]
 pub fn public_key(t: &[u8]) -> &[u8]
     ensures { result.now ≡ public_key t.now }
 {
-    der::encoding(t, der::field(t, root(t), der::SEQUENCE))
+    der::encoding(t, der::field(t, der::root(t), der::SEQUENCE))
 }
 
 #[tactic(auto, unfolding(crate::specs::Info::key_id_field))]
 fn key_id_field(t: &[u8]) -> Element
     ensures { result ≡ key_id_field t.now }
 {
-    der::field(t, root(t), der::OCTET_STRING)
+    der::field(t, der::root(t), der::OCTET_STRING)
 }
 
 pub fn key_identifier(t: &[u8]) -> &[u8]
@@ -44,7 +37,11 @@ pub fn key_identifier(t: &[u8]) -> &[u8]
 fn extension_list(t: &[u8]) -> Element
     ensures { result ≡ extension_list t.now }
 {
-    der::field(t, der::field(t, root(t), der::CONSTRUCTED_1), der::SEQUENCE)
+    der::field(
+        t,
+        der::field(t, der::root(t), der::CONSTRUCTED_1),
+        der::SEQUENCE,
+    )
 }
 
 #[tactic(auto, unfolding(der::specs::Oid::oid, der::specs::Oid::arc, der::specs::Oid::arcs, octets::specs::Number::digits))]

@@ -22,7 +22,7 @@ use store::Names;
 // The communities' section at its longest: the count, and 16 communities of 32 octets, each after its length.
 const SECTION_ROOM: usize = 529;
 
-// An OID is over 32 octets.
+// An OID is over 32 octets. (Anchor's test of a value is of another limit and of an element with its header: one over both is no plainer.)
 fn is_long(s: &[u8], e: Element) -> bool
     ensures { result ≡ ltb max_name_octets (length (contentsOf s.now e)) }
 {
@@ -37,7 +37,8 @@ fn has_long(s: &[u8], list: Element) -> bool
 }
 
 // A communities' section that is put together, in the first octets of a buffer. (A type beside `ScratchImage`, and none over the array's size for both, which is no
-// plainer: that one counts the former anchors too, and lends its image at twenty places, this one at two.)
+// plainer: that one counts the former anchors too, and lends its image at twenty places, this one at two.
+// A buffer with a length and no Vec: the library has no heap.)
 #[derive(Drop)]
 struct NamesSection {
     octets: [u8; SECTION_ROOM],
@@ -234,12 +235,14 @@ pub fn community_update(m: &Accepted, next: &mut [u8]) -> Done
         result
         next.new }
 {
+    // (made here and for an Update alike: a function that gives it would move 33,717 octets)
     let mut work = ScratchImage {
         octets: [0u8; octets::IMAGE_ROOM],
         len: 0,
         former: 0,
     };
     work.len = renumber(m.request, m.signer, m.image, &mut work.octets);
+    // (a `match`: `err().unwrap_or(..)` is no plainer)
     let status = match community_scratch(m, &mut work) {
         Ok(()) => Status::SUCCESS,
         Err(status) => status,

@@ -22,7 +22,7 @@ pub struct Done {
     pub len: usize,
 }
 
-// An accepted message, and the image that the call was given.
+// An accepted message, and the image that the call was given. (No invariant: `Signing`, which the contracts ask, speaks of the next store's buffer too.)
 #[derive(Clone, Copy)]
 struct Accepted<'a> {
     message: &'a [u8],

@@ -2,6 +2,7 @@
 ghost use Rattle.std.specs.Prelude.{◌≡◌, take};
 
 // An image in the first octets of a buffer, and how many of its anchors after the apex stood before the message. What stands after the image is free.
+// (A buffer with a length and no Vec: the library has no heap. No invariant: it is made empty, and what it holds is promised against the call's image and signer.)
 #[derive(Drop)]
 pub struct ScratchImage {
     pub octets: [u8; octets::IMAGE_ROOM],

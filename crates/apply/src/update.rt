@@ -167,7 +167,7 @@ fn enter(m: &Accepted, work: &mut ScratchImage, e: Element) -> u8
         work.new }
 {
     let Err(status) = step(m, work, message::entry_of(m.message, e)) else {
-        return 0;
+        return Status::SUCCESS.number;
     };
     status.number
 }

@@ -41,6 +41,7 @@ fn is_padding(o: &[u8], i: usize) -> bool
 }
 
 // OID: not empty, each arc shortest; an arc's last octet is below 80. From the last octet to the first.
+// (A loop: `rev().all(..)` has one law more to prove, that of a chain over places from the last on, and is no plainer.)
 pub fn is_oid(o: &[u8]) -> bool
     ensures { result ≡ oid_ok o.now }
 {

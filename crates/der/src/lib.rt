@@ -7,7 +7,7 @@ mod search;
 mod write;
 
 pub use check::{check_element, check_run, is_integer, is_oid, spans};
-pub use read::{Run, contents, element_at, encoding, is_constructed, no_element};
+pub use read::{Run, contents, element_at, encoding, is_constructed, no_element, root};
 pub use search::{field, field_after, first_with, key, occurs, type_of};
 pub use write::{header_size, integer_size, put_header, put_integer};
 

@@ -3,7 +3,7 @@ ghost use Rattle.std.specs.Prelude.{◌≡◌, ◌+◌, ◌≤◌, List, length}
 ghost use Rattle.std.specs.Iterator.{item_count};
 ghost use Rattle.std.specs.Map.Iter.{TakesFirst};
 ghost use Rattle.der.specs.declared.Element.{Element};
-ghost use Rattle.der.specs.Element.{absent, length_at, length_shortest, contents_at, element_at, elements, inside, encoding as encodingOf, contents as contentsOf, constructed};
+ghost use Rattle.der.specs.Element.{absent, length_at, length_shortest, contents_at, element_at, root, elements, inside, encoding as encodingOf, contents as contentsOf, constructed};
 ghost use Rattle.der.specs.Contract.Reading.{length_in, next_at};
 
 use crate::Element;
@@ -106,6 +106,13 @@ pub fn element_at(s: &[u8], at: usize, stop: usize) -> Element
     }
 }
 
+// The element that octets by themselves are.
+pub fn root(s: &[u8]) -> Element
+    ensures { result ≡ root s.now }
+{
+    element_at(s, 0, s.len())
+}
+
 // Where a run goes on after e: nothing is read after a header that breaks a rule.
 fn next(e: Element, stop: usize) -> usize
     ensures { result ≡ next_at e stop }
@@ -131,8 +138,8 @@ impl<'a> Run<'a> {
     {
         Run {
             octets: s,
-            at: at,
-            stop: stop,
+            at,
+            stop,
         }
     }
 

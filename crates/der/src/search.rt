@@ -47,7 +47,8 @@ pub fn key(s: &[u8], e: Element, by: Compared) -> &[u8]
     }
 }
 
-// The first member of the run from at up to stop that has the key k. (Octets and two places, and no `Run`, which is no plainer: the keys are read from the octets too.)
+// The first member of the run from at up to stop that has the key k. (Octets and two places, here and in check and read, and no `Run`, which is
+// no plainer: keys and windows are read from the octets too.)
 pub fn first_with(s: &[u8], at: usize, stop: usize, by: Compared, k: &[u8]) -> Option<Element>
     ensures { result ≡ first_with by s.now k.now (elements s.now at stop) }
 {

@@ -1,5 +1,5 @@
 // Edits on a scratch image: a lent buffer that holds an image in its first `len` octets, with free room after it.
-// The buffer and the length stay two parameters: README names these functions, two of the three take both, and no clause asks what stands there.
+// The buffer and the length stay two parameters: README and docs/DECISIONS.md name these functions, two of the three take both, and no clause asks what stands there.
 #![tactic(auto)]
 
 ghost use Rattle.std.specs.Prelude.{◌≡◌, ◌++◌, ◌+◌, ◌<◌, ◌≤◌, length, take, drop};

@@ -66,7 +66,7 @@ impl Parts {
         ensures signer_infos { result.signer_infos ≡ signer_infos s.now }
         ensures signer_info { result.signer_info ≡ signer_info s.now }
     {
-        let info = der::element_at(s, 0, s.len());
+        let info = der::root(s);
         let content = der::field(s, info, der::CONSTRUCTED_0);
         let signed_data = der::field(s, content, der::SEQUENCE);
         let encap = der::field(s, signed_data, der::SEQUENCE);
@@ -129,7 +129,7 @@ pub fn row_ref(
 fn content_type(s: &[u8]) -> Element
     ensures { result ≡ content_type s.now }
 {
-    let info = der::element_at(s, 0, s.len());
+    let info = der::root(s);
     der::field(s, info, der::OBJECT_IDENTIFIER)
 }
 

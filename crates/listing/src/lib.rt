@@ -14,6 +14,7 @@ const BLANK: u8 = 32;
 
 const NEWLINE: u8 = 10;
 
+// (No `{:X}`, of which no clause says what it writes.)
 fn hex_digit(n: u8) -> u8
     requires { n < 16 }
     ensures { result ≡ hex_digit n }
@@ -25,7 +26,7 @@ fn hex_digit(n: u8) -> u8
 }
 
 // A text as it is written: the lent buffer, and the place where the text goes on. (Reply's `Writer` is a type of its own: 01 asks for its form, and its one method takes
-// parts of a reply.)
+// parts of a reply. `same_reference` stands in each clause: a type's invariant says nothing of what a method leaves as it was.)
 #[derive(Drop)]
 struct Text<'a> {
     buf: &'a mut [u8],
@@ -134,7 +135,7 @@ impl<'a> Text<'a> {
         }
     }
 
-    // A role, and a blank.
+    // A role, and a blank. (No `Display`: as with `put_decimal`.)
     fn put_role(&mut self, role: AnchorRole)
         requires { HasRoom self.old (role_field role) }
         ensures same_reference { self.new.buf.ghost_name ≡ self.old.buf.ghost_name }

@@ -5,7 +5,7 @@ ghost use Rattle.octets.specs.Number.{number, big_endian, digits};
 
 use crate::strings::slice;
 
-// The number that the octets from place at on write: `width` of them, as many as there are, and 8 at most.
+// The number that the octets from place at on write: `width` of them, as many as there are, and 8 at most. (No `from_be_bytes`: the width is a parameter.)
 pub fn get_be(s: &[u8], at: usize, width: usize) -> u64
     ensures { (result ≡ number (take (min width 8) (drop at s.now))) × (result < 256 ^ width) }
 {

@@ -3,7 +3,7 @@ ghost use Rattle.std.specs.Prelude.{◌≡◌, ◌+◌, ◌≤◌, length, take,
 ghost use Rattle.octets.specs.Octets.{same, ordered, slice as slice_of, placed};
 
 // Two octet strings are equal. From the last octet to the first: keys and OIDs begin alike and differ in their last octets, so a difference is found at once.
-// A loop and not `a == b`, which begins at the first octet: with it update-16-32-anchors (bench/instructions.sh) takes 4.7 % more instructions.
+// A loop and not `a == b`, which begins at the first octet: with it update-16-32-anchors (bench/instructions.sh) takes 4.7 % more instructions (the bar is 4 %: docs/DESIGN-PASS.md).
 pub fn equal(a: &[u8], b: &[u8]) -> bool
     ensures { result ≡ same a.now b.now }
 {
@@ -36,7 +36,7 @@ pub fn slice(s: &[u8], a: usize, e: usize) -> &[u8]
 
 // Writes src into dst from place at on.
 // A loop and not `copy_from_slice`, which calls memmove: the library asks its C host for memcpy and memset alone (docs/SPEED.md), and with it
-// query-32-long-anchors takes 8 % more instructions.
+// query-32-long-anchors takes 8 % more instructions (the bar is 4 %).
 pub fn copy_to(dst: &mut [u8], at: usize, src: &[u8])
     requires { at + length src.now ≤ length dst.old }
     ensures { dst.new ≡ placed dst.old at src.now }

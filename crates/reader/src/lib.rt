@@ -8,7 +8,7 @@ use std::io;
 use std::io::Read;
 
 // Reads until the buffer is full or the input ends. Gives how many octets came.
-// A loop: `read_exact` does not say how many came where the input ends early, and `read_to_end` wants a Vec.
+// A loop, and no plainer form: `read_exact` does not say how many came where the input ends early, and `read_to_end` wants a Vec.
 pub fn read_full<R: Read>(input: &mut R, buffer: &mut [u8]) -> io::Result<usize>
     ensures within { IfOk result (λ n. n ≤ length buffer.new) }
     ensures octets { IfOk result (λ n.

@@ -56,7 +56,8 @@ impl<'a> Sorted<'a> {
         place != 0 && !octets::in_order(k, self.key_at(place))
     }
 
-    // How many keys stand before k, digit by digit to the base 2. The library's `partition_point` promises one answer for equal keys in a sorted list alone.
+    // How many keys stand before k, digit by digit to the base 2. The library's `partition_point`
+    // would be no plainer: it promises one answer for equal keys in a sorted list alone.
     fn find(&self, k: &[u8]) -> usize
         ensures { (result ≡ findOf (precedes self.now k.now) 12 2048 0) × (result ≤ 4096) }
     {
@@ -150,6 +151,7 @@ fn insert_all(order: &mut [u16], s: &[u8], list: Element, by: Compared, n: usize
     requires { length order.old ≡ cells }
     ensures { length order.new ≡ cells }
 {
+    // counted by hand: the count is the answer, also where the walk ends early
     let mut k = n;
     for e in Run::inside(s, list) {
         if CELLS - 1 <= k || !insert(order, s, e, by, k) {

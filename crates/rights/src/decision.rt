@@ -9,7 +9,7 @@ ghost use Rattle.rights.specs.Constraints.{constraints_rights};
 ghost use Rattle.rights.specs.Contract.Places.{values_under, rights_entry};
 ghost use Rattle.rights.specs.Contract.RightsAnswer.{judged_content, picked_content, content_of};
 
-use crate::{any_entry, constraint_for, entries, governing, is_source, lists};
+use crate::{any_entry, constraint_for, governing, is_source, lists};
 use der::{Compared, Element, Run};
 
 // How a content of one type lies outside the signer's rights.
@@ -59,7 +59,7 @@ fn fresh_value(v: &[u8], constraint: Element) -> usize
 fn lists_type(v: &[u8], key: &[u8]) -> bool
     ensures { result ≡ member key.now (keys (constraints_rights v.now)) }
 {
-    let list = entries(v);
+    let list = der::root(v);
     der::occurs(v, list.start, list.stop, Compared::Types, key)
 }
 
@@ -169,7 +169,7 @@ impl<'a> Anchors<'a> {
             (type_outside (constraints_rights self.now.signer.now) (constraints_rights self.now.new.now))
             (keys (constraints_rights v.now)) }
     {
-        Run::inside(v, entries(v)).find_map(|e| {
+        Run::inside(v, der::root(v)).find_map(|e| {
             let x = self.type_outside(der::type_of(v, e))?;
             Some((e, x))
         })

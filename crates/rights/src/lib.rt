@@ -5,7 +5,6 @@
 
 ghost use Rattle.std.specs.Prelude.{◌≡◌};
 ghost use Rattle.octets.specs.Octets.{member};
-ghost use Rattle.der.specs.Element.{root};
 ghost use Rattle.rights.specs.Contract.Places.{constraint_for, values_under, entry_for, any_entry, governing_entry, rights_entry};
 
 use der::{Compared, Element};
@@ -21,18 +20,11 @@ pub const ANY_CONTENT_TYPE: [u8; 11] = [
     0x2A, 0x86, 0x48, 0x86, 0xF7, 0x0D, 0x01, 0x09, 0x10, 0x01, 0x00,
 ];
 
-// The element that holds the entries.
-fn entries(v: &[u8]) -> Element
-    ensures { result ≡ root v.now }
-{
-    der::element_at(v, 0, v.len())
-}
-
 // The entry of a type.
 fn entry_for(v: &[u8], key: &[u8]) -> Option<Element>
     ensures { result ≡ entry_for v.now key.now }
 {
-    let list = entries(v);
+    let list = der::root(v);
     der::first_with(v, list.start, list.stop, Compared::Types, key)
 }
 
@@ -50,8 +42,8 @@ fn governing(v: &[u8], key: &[u8]) -> Option<Element>
     entry_for(v, key).or_else(|| any_entry(v))
 }
 
-// An entry is passed as the octets and its element, as der passes an element: a struct of the two would be taken apart at each call of der.
-// Whether an entry is canSource.
+// Whether an entry is canSource. (An entry is passed as the octets and its element, as der passes an element: a struct of the two would be taken apart at each
+// call of der.)
 fn is_source(v: &[u8], e: Element) -> bool
     ensures { result ≡ (rights_entry v.now e).can_source }
 {

@@ -20,7 +20,7 @@ enum Anchor<'a> {
 }
 
 impl<'a> Anchor<'a> {
-    // By the case's octet that says whether it is the apex.
+    // By the case's octet that says whether it is the apex. (A flag beside octets, as a case has them.)
     fn new(apex: u8, t: &'a [u8]) -> Anchor<'a>
         ensures { anchor_rights result ≡ rights_if apex t.now }
     {
@@ -39,7 +39,7 @@ enum Role {
 }
 
 impl Role {
-    // By the case's octet.
+    // By the case's octet. (No `From<u8>`: an octet is a role in this place of a case alone.)
     fn new(role: u8) -> Role
         ensures { role_of result ≡ content_role role }
     {
@@ -70,7 +70,7 @@ fn is_authorised(asked: Anchor, role: Role, key: &[u8], attributes: &[u8]) -> bo
         return true;
     };
     let own = anchor::constraints_value(t);
-    let e = der::element_at(attributes, 0, attributes.len());
+    let e = der::root(attributes);
     match role {
         Role::Source => rights::authorises(own, key, attributes, e),
         Role::Carrier => rights::carries(own, key, attributes, e),

@@ -15,14 +15,12 @@ pub struct Records<'a> {
 }
 
 impl<'a> Records<'a> {
-    // The n records from place p on.
+    // The n records from place p on. (Octets, place and count are what an iterator is made of: a struct of them would be one more.)
     pub fn new(s: &'a [u8], p: usize, n: usize) -> Records<'a>
         ensures { result ≡ records_from n (drop p s.now) }
     {
-        Records {
-            rest: crate::after(s, p),
-            left: n,
-        }
+        let rest = crate::after(s, p);
+        Records { rest, left: n }
     }
 
     // All of an image.
@@ -73,10 +71,8 @@ impl<'a> Names<'a> {
     pub fn new(s: &'a [u8], p: usize, n: usize) -> Names<'a>
         ensures { result ≡ names_from n (drop p s.now) }
     {
-        Names {
-            rest: crate::after(s, p),
-            left: n,
-        }
+        let rest = crate::after(s, p);
+        Names { rest, left: n }
     }
 
     // The communities of an image.

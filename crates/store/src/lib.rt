@@ -23,7 +23,7 @@ pub enum NoSigner {
     Unknown,
 }
 
-// What an anchor is sought by.
+// What an anchor is sought by. (An enum and no closure, which is no plainer: the specification's `is_sought` names the two.)
 #[derive(Clone, Copy)]
 pub enum Sought {
     PublicKey,
@@ -98,7 +98,8 @@ pub fn record_at(s: &[u8], p: usize) -> &[u8]
     octets::slice(s, p, record_end(s, p))
 }
 
-// Where the record with a position stands; after the last one, the communities' count.
+// Where the record with a position stands; after the last one, the communities' count. (`names_end` is this loop with another step: one for both is no plainer,
+// nor is a `fold`.)
 pub fn record_place(image: &[u8], position: usize) -> usize
     ensures { result ≡ place_of image.now position }
 {
@@ -230,7 +231,7 @@ fn is_verified(verdict: &[u8], position: usize) -> bool
     octet_at(verdict, position) == 1
 }
 
-// The signer: the first anchor with the identifier and verdict 1.
+// The signer: the first anchor with the identifier and verdict 1. (01 asks for this form: a loop left by break, with the position found.)
 pub fn find_signer(image: &[u8], verdict: &[u8], wanted: &[u8]) -> Result<usize, NoSigner>
     ensures { result ≡ signer (map identifier_in (records_of image.now)) verdict.now wanted.now }
 {

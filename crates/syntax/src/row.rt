@@ -43,7 +43,7 @@ pub const FREE_ROW: u8 = 0;
 
 pub const END_ROW: u8 = 1;
 
-// The first of the octets, 0 where there is none.
+// The first of the octets, 0 where there is none. (store's `octet_at` stands above this crate.)
 fn first(o: &[u8]) -> u8
     ensures { result ≡ octet o.now 0 }
 {
@@ -72,7 +72,7 @@ pub fn keeps(rule: Rule, given: &[u8], o: &[u8]) -> bool
     }
 }
 
-// A row of a table that is this one.
+// A row of a table that is this one. (A row's number is a u8 with `n < count` in clauses: a type of such numbers would be made at each place of the table.)
 fn row_of(table: &table::Table, n: u8) -> Row
     requires { (table.now ≡ rows) × (n < count) }
     ensures { RowIs n result }

@@ -1,6 +1,6 @@
 // DER and a form at once. Where a break's place is not asked for, one walk reads each element once for both: a window's elements are DER, each with this depth
 // left for it, and the window is as a row says. What the grammar leaves free, primitive elements and sets are left to the two checks. (Not one with the matcher: each
-// charges what the other does not know, the matcher a place and the walk a depth, and each has laws of its own.)
+// charges what the other does not know, the matcher a place and the walk a depth: one for both is no plainer.)
 ghost use Rattle.std.specs.Prelude.{◌≡◌, ◌&&◌, ℕ, ◌<◌, true};
 ghost use Rattle.der.specs.Fit.{kept};
 ghost use Rattle.der.specs.Check.{der};

@@ -20,6 +20,7 @@ use message::Request;
 use octets::Status;
 use syntax::TampType;
 
+// (The fields are the C interface's.)
 // What the call returns: the number, how much was written of the reply and of the next store, and where the message broke (02, E3).
 #[repr(C)]
 #[derive(Clone, Copy)]
@@ -36,7 +37,7 @@ impl Answer {
         ensures { result ≡ refusal_of status }
     {
         Answer {
-            number: status.number as u32,
+            number: u32::from(status.number),
             reply_len: 0,
             next_len: 0,
             offset: 0,
@@ -48,7 +49,7 @@ impl Answer {
         ensures { result ≡ answerWith status offset reply next }
     {
         Answer {
-            number: status.number as u32,
+            number: u32::from(status.number),
             reply_len: reply as u64,
             next_len: next as u64,
             offset: offset as u64,
@@ -70,6 +71,8 @@ fn is_small(reply: usize, next: usize) -> bool
     reply < octets::REPLY_ROOM || next < octets::IMAGE_ROOM
 }
 
+// (Size and writing are two functions with one `match` each, here and below: the C interface gives 205 before anything is written, and a closure for the
+// difference is no plainer. Message, request and image are no struct: most take two of the three.)
 // How long the reply to a request is. 205 is decided by it, before anything is written; numbers are no part of a Query's response.
 fn request_size(s: &[u8], q: Request, image: &[u8]) -> usize
     requires { (length s.now ≤ max_message) × (length image.now ≤ image_room) }

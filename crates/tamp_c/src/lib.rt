@@ -1,4 +1,4 @@
-// The call for C, by the name and the arguments of include/tamp.h.
+// The call for C, by the name and the arguments of include/tamp.h. (tamp's `tamp_call` again: a crate is a library or a static library, and tests link the first.)
 #![tactic(auto)]
 
 ghost use Rattle.tamp.specs.Left.{Promise};

@@ -8,7 +8,7 @@ use std::io::{Read, Write};
 // So many octets are printed at a time, each as two digits.
 const CHUNK: usize = 2048;
 
-// Octets in hex. (By `hex_text`, which is proved to write these digits, and no `{:02X}`, of which no clause says what it writes.)
+// Octets in hex. (By `hex_text`, which is proved to write these digits, a piece at a time: a `write!` of each octet would be a call of the system for each.)
 fn print_octets<W: Write>(out: &mut W, o: &[u8]) -> io::Result<()> {
     let mut text = [0u8; 2 * CHUNK];
     for part in o.chunks(CHUNK) {
@@ -43,6 +43,7 @@ fn print_call<W: Write>(
     print_line(out, "store", octets::slice(next, 0, r.next_len as usize))
 }
 
+// (The answer of this and of the next two is whether to go on: a bool, and an enum of two says no more.)
 fn bad_call<W: Write>(out: &mut W) -> io::Result<bool> {
     writeln!(out, "bad call")?;
     Ok(false)

@@ -8,7 +8,7 @@ use std::io;
 use std::io::{Read, Write};
 use syntax::TampType;
 
-// The name of a message's type (RFC 5934, id-ct-TAMP-..).
+// The name of a message's type (RFC 5934, id-ct-TAMP-..). (No `Display`, which would be a promise of syntax for this one line.)
 fn type_name(kind: TampType) -> &'static str {
     match kind {
         TampType::StatusQuery => "statusQuery",
@@ -46,6 +46,7 @@ fn print_message<W: Write>(out: &mut W, s: &[u8]) -> io::Result<()> {
     }
 }
 
+// (This and `next` are as in tamp_call, with another head and another body: one for both would take both as closures over input and output.)
 fn bad_input<W: Write>(out: &mut W) -> io::Result<bool> {
     writeln!(out, "bad input")?;
     Ok(false)

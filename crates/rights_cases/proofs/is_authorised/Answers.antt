@@ -11,9 +11,9 @@ returns-in_default c = rw c.in_default.is (sym (apex _))
 pub returns-in-Source : goal.returns-in-Source
 unfolding content_in
 returns-in-Source c =
-    rw (c.in-Other.is, c.in-Source.is, ← own_rights _ c.constraints_value-own.ensures, ← c.element_at-e.ensures) c.authorises.ensures
+    rw (c.in-Other.is, c.in-Source.is, ← own_rights _ c.constraints_value-own.ensures, ← c.root-e.ensures) c.authorises.ensures
 
 pub returns-in-Carrier : goal.returns-in-Carrier
 unfolding content_in
 returns-in-Carrier c =
-    rw (c.in-Other.is, c.in-Carrier.is, ← own_rights _ c.constraints_value-own.ensures, ← c.element_at-e.ensures) c.carries.ensures
+    rw (c.in-Other.is, c.in-Carrier.is, ← own_rights _ c.constraints_value-own.ensures, ← c.root-e.ensures) c.carries.ensures
