@@ -103,16 +103,16 @@ impl<'a> Cases<'a> {
         octets::slice(s, 2, end)
     }
 
-    // The answer to the case W, behind its first two octets.
+    // The answer to the case W, behind its first two octets. (Each answer is a whole line: it is written by one call of the system.)
     fn within(&mut self, apex: u8) -> &'static str
         ensures { length self.new.left.now ≤ length self.old.left.now }
     {
         let signer = Anchor::new(apex, self.frame());
         let new = self.frame();
         if is_within(signer, new) {
-            "within"
+            "within\n"
         } else {
-            "not"
+            "not\n"
         }
     }
 
@@ -124,9 +124,9 @@ impl<'a> Cases<'a> {
         let key = self.frame();
         let attributes = self.frame();
         if is_authorised(asked, Role::new(role), key, attributes) {
-            "authorised"
+            "authorised\n"
         } else {
-            "not"
+            "not\n"
         }
     }
 
@@ -154,7 +154,7 @@ fn main(rt: HostRuntime) -> io::Result<()> {
     let mut cases = Cases { left: &input[..n] };
     let mut out = rt.stdout();
     while let Some(answer) = cases.answer() {
-        writeln!(out, "{answer}")?;
+        out.write_all(answer.as_bytes())?;
     }
     Ok(())
 }

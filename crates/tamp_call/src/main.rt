@@ -18,9 +18,9 @@ fn print_octets<W: Write>(out: &mut W, o: &[u8]) -> io::Result<()> {
     Ok(())
 }
 
-// A line of a word and octets in hex, - where there are none.
+// A line of a word, a blank at its end, and octets in hex, - where there are none. (No `{word} `, which is two calls of the system.)
 fn print_line<W: Write>(out: &mut W, word: &str, o: &[u8]) -> io::Result<()> {
-    write!(out, "{word} ")?;
+    out.write_all(word.as_bytes())?;
     if o.is_empty() {
         write!(out, "-")?;
     }
@@ -39,8 +39,8 @@ fn print_call<W: Write>(
     let r = tamp::tamp_call(message, image, verdict, reply, next);
     writeln!(out, "status {}", r.number)?;
     writeln!(out, "offset {}", r.offset)?;
-    print_line(out, "reply", octets::slice(reply, 0, r.reply_len as usize))?;
-    print_line(out, "store", octets::slice(next, 0, r.next_len as usize))
+    print_line(out, "reply ", octets::slice(reply, 0, r.reply_len as usize))?;
+    print_line(out, "store ", octets::slice(next, 0, r.next_len as usize))
 }
 
 // (The answer of this and of the next two is whether to go on: a bool, and an enum of two says no more.)

@@ -18,9 +18,13 @@ fn type_name(kind: TampType) -> &'static str {
     }
 }
 
+const DIGITS: &[u8; 16] = b"0123456789ABCDEF";
+
+// Octets in hex. (No `{x:02X}`: it writes the zero of an octet below 10 by a call of the system of its own.)
 fn print_octets<W: Write>(out: &mut W, o: &[u8]) -> io::Result<()> {
     for x in o {
-        write!(out, "{x:02X}")?;
+        let pair = [DIGITS[usize::from(*x / 16)], DIGITS[usize::from(*x % 16)]];
+        out.write_all(&pair)?;
     }
     Ok(())
 }
